@@ -1,0 +1,4 @@
+pub mod Stopping
+pub mod RampStep
+pub mod VelocityStep
+pub mod Run

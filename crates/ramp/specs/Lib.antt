@@ -1,0 +1,10 @@
+pub mod Stopping
+pub mod RampStep
+pub mod VelocityStep
+pub mod Limits
+pub mod Begin
+pub mod Near
+pub mod Next
+pub mod Run
+pub mod Cases
+pub mod Laws
