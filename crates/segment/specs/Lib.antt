@@ -1,1 +1,4 @@
+pub mod Calls
+pub mod Cycle
 pub mod Refusal
+pub mod Row

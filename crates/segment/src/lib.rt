@@ -1,4 +1,10 @@
-//! Drive segments: a row of axes, and why a segment refuses a call.
+//! Drive segments: a row of axes, what each call makes of it, and why a call is refused.
+pub mod axis;
+pub mod meaning;
 pub mod refusal;
 
+pub use axis::AxisLook;
+pub use axis::Power;
+pub use meaning::Segment;
 pub use refusal::Reason;
+pub use refusal::Refusal;

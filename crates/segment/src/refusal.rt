@@ -1,6 +1,8 @@
-//! Why a drive segment refuses a call.
+//! Why a drive segment refuses a call, and how many stages handed the refusal up.
 ghost use mathlib.Core.Path.{_≡_};
-ghost use Rattle.segment.specs.Refusal.{reason-number};
+ghost use Prim.Native.Nat.{_≤_};
+
+pub mod methods;
 
 /// The reason of a refusal; its number is the one that the trail and the messages show.
 #[derive(Clone, Copy, PartialEq, Eq, Debug)]
@@ -19,11 +21,12 @@ pub enum Reason {
     Setting = 17,
 }
 
-impl Reason {
-    /// The number of the reason.
-    pub fn number(self) -> u8
-        ensures { λ r. ⌜ r ≡ reason-number self ⌝ }
-    {
-        self as u8
-    }
+/// A refusal on its way up through the stages.
+#[derive(Clone, Copy, PartialEq, Eq, Debug)]
+pub struct Refusal {
+    /// Why the call was refused.
+    pub reason: Reason,
+    /// How many stages handed it up, counted to 15.
+    pub depth: u8,
+    ghost shallow: { depth ≤ 15 },
 }
