@@ -1,19 +1,19 @@
 //! Powers a CiA 402 axis on, leads it to a target through soft limits and a mirror, trips it, clears it, and prints
 //! how the axis looks and the state of its drive after each call.
-use std::io;
 use drives::Bank;
 use drives::Cia402Axis;
 use drives::DriveState;
-use drives::cia402_segment;
 use drives::cia402_drive::Cia402Drive;
+use drives::cia402_segment;
 use drives::row::BankSegment;
 use segment::Power;
 use segment::Refusal;
 use segment::Segment;
 use stages::Mirror;
+use stages::MirrorSegment;
 use stages::SoftLimits;
-use stages::limits::LimitsSegment;
-use stages::mirror::MirrorSegment;
+use stages::SoftLimitsSegment;
+use std::io;
 
 type Line = SoftLimits<Mirror<Bank<Cia402Axis>>>;
 
@@ -50,7 +50,10 @@ fn show(rt: &LibcRuntime, call: &str, line: &Line) -> io::Result<()> {
     let demand = look.demand;
     let actual = look.actual;
     let fault = look.fault;
-    println!(rt, "{call}: power {power}, demand {demand}, actual {actual}, fault {fault}; {state}")
+    println!(
+        rt,
+        "{call}: power {power}, demand {demand}, actual {actual}, fault {fault}; {state}"
+    )
 }
 
 // What a call answered, where it was refused.

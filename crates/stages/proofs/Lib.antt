@@ -1,0 +1,4 @@
+pub mod Alike
+pub mod HandedUp
+pub mod Mirrored
+pub mod Narrowed

@@ -1,0 +1,4 @@
+pub mod HandingUp
+pub mod Making
+pub mod Mirrored
+pub mod Narrowed
