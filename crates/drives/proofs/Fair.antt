@@ -5,8 +5,7 @@ use Prim.Native.Nat.{ℕ, zero, suc, _<_, _≤_}
 use native.Mathlib.Omega.{arith}
 use lib.Dec.{leb}
 use lib.ListN.{getD, replicate}
-use lib.IntN.{ℤ, pos, negsuc}
-use lib.Signed.{_≤ℤ_, leZ}
+use lib.IntN.{ℤ}
 use mir.Syntax.{w32}
 use mir.Val.{SFits, toZ, ofZ}
 use Rattle.std.proofs.shelf.Signed.{ints, toZ-ofZ}

@@ -16,7 +16,7 @@ use Rattle.segment.specs.declared.axis.Power.{Power}
 use Rattle.segment.specs.declared.axis.Power.the-variants.{Off, Coming, On}
 use Rattle.segment.specs.declared.refusal.Reason.the-variants.{OutOfRange, Faulted}
 use Rattle.segment.specs.Row.{Position, Sound}
-use Rattle.segment.specs.Calls.{in-range, ready-reason, unless-on}
+use Rattle.segment.specs.Calls.{ready-reason, unless-on}
 
 some-none : {X : Type 0} {x : X} → Some x ≡ None → ⊥
 some-none e = let z : _≡_ {A = ℕ} 0 1 = cc in omega arith

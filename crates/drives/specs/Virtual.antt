@@ -1,10 +1,9 @@
 -- What a virtual axis makes of an order. Assumes nothing.
 use mathlib.Core.Path.{_≡_}
-use mathlib.Core.Bool.{Bool, true}
+use mathlib.Core.Bool.{true}
 use Prim.Native.Nat.{ℕ, _<_}
 use native.Mathlib.Omega.{arith}
 use lib.IntN.{ℤ}
-use lib.Dec.{eqb}
 use Rattle.std.proofs.shelf.Tests.{ne-eqb, false≢true}
 use Rattle.segment.specs.declared.axis.AxisLook.{AxisLook}
 use Rattle.segment.specs.declared.axis.Power.{Power}

@@ -1,5 +1,4 @@
 //! The virtual axis is a drive.
-ghost use mathlib.Core.Path.{_≡_};
 ghost use Rattle.drives.specs.Virtual.{Virtual-obeys, virtual-sound};
 use crate::drive::Drive;
 use crate::virtual_axis::VirtualAxis;

@@ -1,7 +1,6 @@
 -- An accepted follow is shown after a calm cycle. Assumes nothing.
 use mathlib.Core.Path.{_≡_, refl, sym, ap, subst, _∙_}
-use mathlib.Core.Bool.{cond}
-use mathlib.Core.Logic.{_⊎_, inl, inr}
+use mathlib.Core.Logic.{inl, inr}
 use Prim.Native.Nat.{ℕ, _<_}
 use native.Mathlib.Omega.{arith}
 use lib.Dec.{eqb, ltb}
@@ -16,10 +15,10 @@ use Rattle.segment.specs.declared.axis.AxisLook.{AxisLook}
 use Rattle.segment.specs.declared.axis.Power.{Power}
 use Rattle.segment.specs.declared.axis.Power.the-variants.{Off, Coming, On}
 use Rattle.segment.specs.Calls.{followed, Followed, Looked}
-use Rattle.segment.specs.Cycle.{Axis-cycled, Calm, Arose, Cycled, Demand-cycled}
+use Rattle.segment.specs.Cycle.{Axis-cycled, Cycled, Demand-cycled}
 use Rattle.segment.specs.Laws.Follow.{Follow-is-shown, Moved}
 use Rattle.segment.specs.Row.{Row, changed}
-use Rattle.segment.proofs.Ready.{Ready, ready}
+use Rattle.segment.proofs.Ready.{ready}
 
 -- the changed row at the axis itself
 pub changed-here : (f : AxisLook → AxisLook) (row : Row) (axis : ℕ) → changed f row axis .at axis ≡ f (row .at axis)

@@ -1,15 +1,14 @@
 -- A fault locks an axis out until it is cleared and powered on again. Assumes nothing.
 use mathlib.Core.Path.{_≡_, refl, sym, ap, subst, _∙_}
-use mathlib.Core.Bool.{Bool, true, false, cond}
-use mathlib.Core.List.{List, [], _∷_}
-use mathlib.Core.Logic.{_⊎_, inl, inr, ⊎-elim}
+use mathlib.Core.List.{List}
+use mathlib.Core.Logic.{_⊎_, inl, inr}
 use Prim.Native.Nat.{ℕ, _<_}
 use native.Mathlib.Omega.{arith}
 use lib.Dec.{eqb}
 use lib.IntN.{ℤ}
-use Rattle.std.proofs.shelf.Tests.{cases-eq, cases-lt, eq-eqb, ne-eqb, cond-true, cond-false}
+use Rattle.std.proofs.shelf.Tests.{cases-eq, eq-eqb, ne-eqb, cond-true, cond-false}
 use Rattle.std.specs.declared.option.Option.{Option}
-use Rattle.std.specs.declared.option.Option.the-variants.{Some, None}
+use Rattle.std.specs.declared.option.Option.the-variants.{None}
 use Rattle.std.specs.declared.result.Result.{Result}
 use Rattle.std.specs.declared.result.Result.the-variants.{Ok, Err}
 use Rattle.segment.specs.declared.axis.AxisLook.{AxisLook}
@@ -18,10 +17,10 @@ use Rattle.segment.specs.declared.axis.Power.the-variants.{Off, Coming, On}
 use Rattle.segment.specs.declared.refusal.Reason.{Reason}
 use Rattle.segment.specs.declared.refusal.Refusal.{Refusal}
 use Rattle.segment.specs.Calls.{Answers, powered, unpowered, followed, tripped, cleared, follow-reason}
-use Rattle.segment.specs.Cycle.{Axis-cycled, Calm, Arose, Cycled, Power-cycled}
+use Rattle.segment.specs.Cycle.{Axis-cycled, Power-cycled}
 use Rattle.segment.specs.Laws.Faults.{Call, power-on, power-off, follow, trip, clear, cycle, Turn, Run, done, then, Powers-now, Powers, Clears-now, Clears-and-powers, Faults-lock-out}
-use Rattle.segment.specs.Row.{Row, Sound-row, Is-off, changed}
-use Rattle.segment.proofs.Ready.{Ready, ready}
+use Rattle.segment.specs.Row.{Row, Is-off, changed}
+use Rattle.segment.proofs.Ready.{ready}
 
 -- ---- what a call keeps of an axis
 

@@ -1,19 +1,16 @@
 -- What an accepted follow tells of the axis. Assumes nothing.
-use mathlib.Core.Path.{_≡_, refl, sym, ap, _∙_}
+use mathlib.Core.Path.{_≡_, refl}
 use mathlib.Core.Bool.{Bool, true, false, cond}
 use Prim.Native.Nat.{ℕ, _<_}
 use native.Mathlib.Omega.{arith}
 use lib.Dec.{eqb, ltb}
 use lib.IntN.{ℤ}
 use Rattle.std.proofs.shelf.Tests.{ltb-true, eqb-true}
-use Rattle.std.specs.declared.option.Option.{Option}
 use Rattle.std.specs.declared.option.Option.the-variants.{Some, None}
-use Rattle.segment.specs.declared.axis.AxisLook.{AxisLook}
 use Rattle.segment.specs.declared.axis.Power.{Power}
 use Rattle.segment.specs.declared.axis.Power.the-variants.{Off, Coming, On}
-use Rattle.segment.specs.declared.refusal.Reason.{Reason}
-use Rattle.segment.specs.declared.refusal.Reason.the-variants.{NoSuchAxis, Faulted, PowerNotOn, OutOfRange}
-use Rattle.segment.specs.Calls.{in-range, unless-on, ready-reason, follow-reason}
+use Rattle.segment.specs.declared.refusal.Reason.the-variants.{NoSuchAxis, Faulted, OutOfRange}
+use Rattle.segment.specs.Calls.{in-range, unless-on, follow-reason}
 use Rattle.segment.specs.Row.{Row}
 
 some-none : {X : Type 0} {x : X} → Some x ≡ None → ⊥

@@ -1,5 +1,4 @@
 //! Why a drive segment refuses a call, and how many stages handed the refusal up.
-ghost use mathlib.Core.Path.{_≡_};
 ghost use Prim.Native.Nat.{_≤_};
 
 pub mod methods;

@@ -6,7 +6,7 @@ use Rattle.std.specs.declared.result.Result.{Result}
 use Rattle.std.specs.declared.result.Result.the-variants.{Ok, Err}
 use Rattle.segment.specs.declared.axis.AxisLook.{AxisLook}
 use Rattle.segment.specs.declared.refusal.Refusal.{Refusal}
-use Rattle.segment.specs.Calls.{Followed, Looked}
+use Rattle.segment.specs.Calls.{Followed}
 use Rattle.segment.specs.Cycle.{Cycled}
 use Rattle.segment.specs.Row.{Row}
 

@@ -1,11 +1,9 @@
-use mathlib.Core.Path.{_≡_, refl, sym, ap, _∙_}
-use mathlib.Core.Bool.{true}
+use mathlib.Core.Path.{refl, sym, ap, _∙_}
 use mir.Syntax.{w32}
 use mir.Val.{SFits}
 use Rattle.std.proofs.shelf.Signed.{toZ-ofZ}
 use Rattle.segment.specs.Row.{Position}
-use Rattle.drives.specs.Settings.{fair}
-use Rattle.drives.proofs.Fair.{Fair, fair-means, each-filled, as-passed}
+use Rattle.drives.proofs.Fair.{fair-means, each-filled, as-passed}
 use Rattle.drives.proofs.making.virtual_segment.Needs as need
 
 pub new-virtual-axis-requires : need.new-virtual-axis-requires
