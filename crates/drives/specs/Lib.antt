@@ -1,5 +1,6 @@
 pub mod Cia402
 pub mod Fitting
+pub mod Laws
 pub mod Making
 pub mod Orders
 pub mod Rest

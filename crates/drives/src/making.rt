@@ -2,6 +2,7 @@
 ghost use mathlib.Core.Path.{_≡_};
 ghost use Rattle.segment.specs.Row.{Position};
 ghost use Rattle.drives.specs.Cia402.{parts};
+ghost use Rattle.drives.specs.Laws.Cia402.{Lag-is-kept, States-follow-arrows, Powers-up};
 ghost use Rattle.drives.specs.Making.{new-cia402, Virtual-made, Cia402-made, State-answered};
 ghost use Rattle.drives.specs.Settings.{is-position, fair, fair-lag, Lag};
 ghost use Rattle.drives.specs.Virtual.{fresh};
@@ -103,7 +104,10 @@ pub fn cia402_segment(
     high: i32,
     lag: i32,
 ) -> Result<Bank<Cia402Axis>, Refusal>
-    ensures { λ r. ⌜ Cia402-made count start low high lag r ⌝ }
+    ensures made { λ r. ⌜ Cia402-made count start low high lag r ⌝ }
+    ensures lags { λ _. ⌜ Lag-is-kept ⌝ }
+    ensures arrows { λ _. ⌜ States-follow-arrows ⌝ }
+    ensures powers { λ _. ⌜ Powers-up ⌝ }
 {
     if !are_fair(count, start, low, high) {
         return Err(Refusal::new(Reason::Setting));
