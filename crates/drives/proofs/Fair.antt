@@ -42,7 +42,9 @@ fair-means count start low high e =
       high-in = position-means high (to-low .1);
     }
 
-pub fair-from : (count : ℕ) (start low high : ℤ) (x y z : Bool) → x ≡ is-position start → y ≡ is-position low → z ≡ is-position high → (leb 1 count && leb count 8 && x && y && z) ≡ fair count start low high
+pub fair-from :
+    (count : ℕ) (start low high : ℤ) (x y z : Bool) → x ≡ is-position start → y ≡ is-position low →
+    z ≡ is-position high → (leb 1 count && leb count 8 && x && y && z) ≡ fair count start low high
 fair-from count start low high x y z p q r = rw (p, q, r)
 
 -- each of a row that is filled with one value is that value

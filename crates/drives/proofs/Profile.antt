@@ -14,7 +14,9 @@ use Rattle.drives.specs.Laws.Cia402.{Lags, Lag-is-kept, Arrow, started, shut-d
 use Rattle.drives.specs.Orders.{power-on, power-off, follow-to, trip-with, clear-it, cycle-it}
 
 -- what nearer comes to, by its two tests
-lags-by : (up down : Bool) (a d lag : ℤ) → pos 1 ≤ℤ lag → ltZ lag (d -ℤ a) ≡ up → ltZ (d -ℤ a) (negℤ lag) ≡ down → Lags a d lag (cond up (a +ℤ lag) (cond down (a -ℤ lag) d))
+lags-by :
+    (up down : Bool) (a d lag : ℤ) → pos 1 ≤ℤ lag → ltZ lag (d -ℤ a) ≡ up → ltZ (d -ℤ a) (negℤ lag) ≡ down →
+    Lags a d lag (cond up (a +ℤ lag) (cond down (a -ℤ lag) d))
 lags-by true down a d lag h u v = record {
   least = grind (arith, ints, clamps);
   most = grind (arith, ints, clamps);
@@ -71,7 +73,9 @@ cycled-arrow OperationEnabled requested = inl refl
 cycled-arrow FaultReactionActive requested = inr faulted
 cycled-arrow Fault requested = inl refl
 
-trip-arrow : (calm : Bool) (tripped x : Axis) → tripped .state ≡ FaultReactionActive → Stays-or-arrow (x .state) (cond calm tripped x .state)
+trip-arrow :
+    (calm : Bool) (tripped x : Axis) → tripped .state ≡ FaultReactionActive →
+    Stays-or-arrow (x .state) (cond calm tripped x .state)
 trip-arrow true tripped x e = inr (subst (λ s. Arrow (x .state) s) (sym e) reacts)
 trip-arrow false tripped x e = inl refl
 
@@ -79,7 +83,8 @@ pub states-follow-arrows : States-follow-arrows
 states-follow-arrows power-on x = inl refl
 states-follow-arrows power-off x = off-arrow (x .state)
 states-follow-arrows (follow-to position) x = inl refl
-states-follow-arrows (trip-with code) x = trip-arrow (eqb (x .fault) 0) (with-state FaultReactionActive false code x) x refl
+states-follow-arrows (trip-with code) x =
+    trip-arrow (eqb (x .fault) 0) (with-state FaultReactionActive false code x) x refl
 states-follow-arrows clear-it x = cleared-arrow (x .state)
 states-follow-arrows cycle-it x = cycled-arrow (x .state) (x .requested)
 

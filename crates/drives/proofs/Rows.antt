@@ -31,7 +31,8 @@ module _ {D : Type 0} (f : D → AxisLook) (n : ℕ) (xs : List D) (within : n �
   shown-changed g i d y h s =
       let row = map f (take n xs) in
       let l : i < length row = simp (length-map, length-take) (omega arith) in
-      let e : map f (take n (set xs i y)) ≡ set row i (f y) = ap (map f) (take-set-lt n xs i y h) ∙ map-set f (take n xs) i y in
+      let e : map f (take n (set xs i y)) ≡ set row i (f y) =
+      ap (map f) (take-set-lt n xs i y h) ∙ map-set f (take n xs) i y in
       let each = at-changed g (λ k. getD row k blank) (λ k. getD (map f (take n (set xs i y))) k blank) i
       (ap (λ ys. getD ys i blank) e ∙ getD-set-same row i (f y) blank l ∙ s ∙ ap g (sym (shown-at i d h)))
       (λ k ne. ap (λ ys. getD ys k blank) e ∙ getD-set-other row i k (f y) blank ne) in
@@ -45,7 +46,9 @@ pub record Turned {D : Type 0} (seen : D → AxisLook) (obeys : Order → D → 
 -- a loop that has changed the drives below i, each as R allows
 module _ {D : Type 0} (R : D → D → Type 0) (xs ys : List D) (i : ℕ) where
   abbrev pub Gone : Type 0
-  Gone = ((k : ℕ) (d : D) → k < i → R (getD xs k d) (getD ys k d)) × ((k : ℕ) (d : D) → i ≤ k → getD ys k d ≡ getD xs k d)
+  Gone =
+      ((k : ℕ) (d : D) → k < i → R (getD xs k d) (getD ys k d)) ×
+      ((k : ℕ) (d : D) → i ≤ k → getD ys k d ≡ getD xs k d)
 
 pub gone-more : {D : Type 0} (R : D → D → Type 0) (xs ys : List D) (i : ℕ) (x y : D) → i < length ys
     → Gone R xs ys i → R (getD ys i x) y → Gone R xs (set ys i y) (i + 1)
@@ -65,10 +68,14 @@ gone-more {D} R xs ys i x y lt inv r = (
 
 pub shown-cycled : {D : Type 0} (f : D → AxisLook) (n m : ℕ) (xs ys : List D) → m ≡ n → n ≤ length xs → n ≤ length ys
     → ((k : ℕ) (d : D) → k < n → Axis-cycled (f (getD xs k d)) (f (getD ys k d))) → Cycled (shown-row f n xs) (shown-row f m ys)
-shown-cycled {D} f n m xs ys e p q h = rw e (record { count = refl; each = λ k lt. let d : D = some-of xs k (omega arith) in rw (shown-at f n xs p k d lt, shown-at f n ys q k d lt) (h k d lt) })
+shown-cycled {D} f n m xs ys e p q h =
+    rw e
+    (record { count = refl; each = λ k lt. let d : D = some-of xs k (omega arith) in rw (shown-at f n xs p k d lt, shown-at f n ys q k d lt) (h k d lt) })
 
 -- a drive of the row obeyed, and the others stayed
-pub obeyed-set : {D : Type 0} (obeys : Order → D → D → Type 0) (order : Order) (axis : ℕ) (xs : List D) (x y : D) → axis < length xs → obeys order (getD xs axis x) y → Obeyed obeys order axis xs (set xs axis y)
+pub obeyed-set :
+    {D : Type 0} (obeys : Order → D → D → Type 0) (order : Order) (axis : ℕ) (xs : List D) (x y : D) →
+    axis < length xs → obeys order (getD xs axis x) y → Obeyed obeys order axis xs (set xs axis y)
 obeyed-set obeys order axis xs x y lt o = record {
   here = λ d. rw getD-set-same (rw (getD-default xs axis d x lt) o);
   others = λ k d ne. let other : k ≢ axis = ne in rw getD-set-other;

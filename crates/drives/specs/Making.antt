@@ -50,9 +50,11 @@ pub record New-cia402 (count : ℕ) (start low high lag : ℤ) (bank : Bank Cia4
 -- it is made if the settings are within their limits
 abbrev pub Cia402-made : ℕ → ℤ → ℤ → ℤ → ℤ → Result (Bank Cia402Axis) Refusal → Type 0
 Cia402-made count start low high lag (Ok bank) = New-cia402 count start low high lag bank
-Cia402-made count start low high lag (Err e) = ((fair count start low high && fair-lag lag) ≡ false) × (e .reason ≡ Setting)
+Cia402-made count start low high lag (Err e) =
+    ((fair count start low high && fair-lag lag) ≡ false) × (e .reason ≡ Setting)
 
 -- a question for a drive's state answers it, for an axis that is there
 abbrev pub State-answered : Bank Cia402Axis → ℕ → Result DriveState Refusal → Type 0
-State-answered bank axis (Ok state) = (axis < bank .count) × ((d : Cia402Axis) → state ≡ getD (bank .drives) axis d .state)
+State-answered bank axis (Ok state) =
+    (axis < bank .count) × ((d : Cia402Axis) → state ≡ getD (bank .drives) axis d .state)
 State-answered bank axis (Err e) = (bank .count ≤ axis) × (e .reason ≡ NoSuchAxis)

@@ -7,6 +7,7 @@ use lib.ListN.{getD}
 use Rattle.std.specs.declared.result.Result.{Result}
 use Rattle.std.specs.declared.result.Result.the-variants.{Ok, Err}
 use Rattle.segment.specs.declared.refusal.Refusal.{Refusal}
+use Rattle.drives.specs.declared.bank.Bank.{Bank}
 
 -- an order to a drive
 pub data Order : Type 0 where
@@ -23,10 +24,12 @@ pub record Obeyed {D : Type 0} (obeys : Order → D → D → Type 0) (order : O
   pub others : (k : ℕ) (d : D) → (k ≡ axis → ⊥) → getD after k d ≡ getD before k d
 
 -- an order that is not refused is obeyed, and a refused one changes no drive
-abbrev pub Obeyed-or-not : {D : Type 0} → (Order → D → D → Type 0) → Order → ℕ → List D → Result (Unit {0}) Refusal → List D → Type 0
-Obeyed-or-not obeys order axis before (Ok x) after = Obeyed obeys order axis before after
-Obeyed-or-not obeys order axis before (Err e) after = after ≡ before
+abbrev pub Obeyed-or-not :
+    {D : Type 0} → (Order → D → D → Type 0) → Order → ℕ → Bank D → Result (Unit {0}) Refusal → Bank D → Type 0
+Obeyed-or-not obeys order axis before (Ok x) after = Obeyed obeys order axis (before .drives) (after .drives)
+Obeyed-or-not obeys order axis before (Err e) after = after .drives ≡ before .drives
 
 -- each drive of the row ran its cycle
-abbrev pub All-cycled : {D : Type 0} → (Order → D → D → Type 0) → ℕ → List D → List D → Type 0
-All-cycled {D} obeys count before after = (k : ℕ) (d : D) → k < count → obeys cycle-it (getD before k d) (getD after k d)
+abbrev pub All-cycled : {D : Type 0} → (Order → D → D → Type 0) → Bank D → Bank D → Type 0
+All-cycled {D} obeys before after =
+    (k : ℕ) (d : D) → k < before .count → obeys cycle-it (getD (before .drives) k d) (getD (after .drives) k d)

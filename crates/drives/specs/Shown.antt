@@ -27,10 +27,14 @@ sound-blank =
     let zero-in : Position (pos 0) = (omega (arith, ints), omega (arith, ints)) in
     record { demand = zero-in; actual = zero-in; low = zero-in; high = zero-in; fault = omega arith; power = λ h. tt }
 
-sound-at : {D : Type 0} (seen : D → AxisLook) → ((d : D) → Sound (seen d)) → (drives : List D) (k : ℕ) → Sound (getD (map seen drives) k blank)
+sound-at :
+    {D : Type 0} (seen : D → AxisLook) → ((d : D) → Sound (seen d)) → (drives : List D) (k : ℕ) →
+    Sound (getD (map seen drives) k blank)
 sound-at seen each [] k = sound-blank
 sound-at seen each (x ∷ xs) zero = each x
 sound-at seen each (x ∷ xs) (suc k) = sound-at seen each xs k
 
-pub shown-sound : {D : Type 0} (seen : D → AxisLook) (count : ℕ) (drives : List D) → ((d : D) → Sound (seen d)) → 1 ≤ count → count ≤ 8 → Sound-row (shown-row seen count drives)
+pub shown-sound :
+    {D : Type 0} (seen : D → AxisLook) (count : ℕ) (drives : List D) → ((d : D) → Sound (seen d)) → 1 ≤ count →
+    count ≤ 8 → Sound-row (shown-row seen count drives)
 shown-sound seen count drives each some few = record { some = some; few = few; each = sound-at seen each (take count drives) }

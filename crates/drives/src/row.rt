@@ -58,7 +58,7 @@ pub impl<D: Drive> Segment for Bank<D> as BankSegment {
 
     fn power_on(&mut self, axis: usize) -> Result<(), Refusal>
         ensures meant { λ r. ⌜ Powered-on (row-of (D·Drive .seen) (now (self .entry))) axis r (row-of (D·Drive .seen) (now (self .exit))) ⌝ }
-        ensures exact { λ r. ⌜ Obeyed-or-not (D·Drive .obeys) power-on axis (now (self .entry) .drives) r (now (self .exit) .drives) ⌝ }
+        ensures exact { λ r. ⌜ Obeyed-or-not (D·Drive .obeys) power-on axis (now (self .entry)) r (now (self .exit)) ⌝ }
     {
         if axis >= self.count {
             return Err(Refusal::new(Reason::NoSuchAxis));
@@ -69,7 +69,7 @@ pub impl<D: Drive> Segment for Bank<D> as BankSegment {
 
     fn power_off(&mut self, axis: usize) -> Result<(), Refusal>
         ensures meant { λ r. ⌜ Powered-off (row-of (D·Drive .seen) (now (self .entry))) axis r (row-of (D·Drive .seen) (now (self .exit))) ⌝ }
-        ensures exact { λ r. ⌜ Obeyed-or-not (D·Drive .obeys) power-off axis (now (self .entry) .drives) r (now (self .exit) .drives) ⌝ }
+        ensures exact { λ r. ⌜ Obeyed-or-not (D·Drive .obeys) power-off axis (now (self .entry)) r (now (self .exit)) ⌝ }
     {
         if axis >= self.count {
             return Err(Refusal::new(Reason::NoSuchAxis));
@@ -80,7 +80,7 @@ pub impl<D: Drive> Segment for Bank<D> as BankSegment {
 
     fn follow(&mut self, axis: usize, position: i32) -> Result<(), Refusal>
         ensures meant { λ r. ⌜ Followed (row-of (D·Drive .seen) (now (self .entry))) axis position r (row-of (D·Drive .seen) (now (self .exit))) ⌝ }
-        ensures exact { λ r. ⌜ Obeyed-or-not (D·Drive .obeys) (follow-to position) axis (now (self .entry) .drives) r (now (self .exit) .drives) ⌝ }
+        ensures exact { λ r. ⌜ Obeyed-or-not (D·Drive .obeys) (follow-to position) axis (now (self .entry)) r (now (self .exit)) ⌝ }
     {
         let look = self.look_at(axis)?;
         ready(look, position)?;
@@ -90,7 +90,7 @@ pub impl<D: Drive> Segment for Bank<D> as BankSegment {
 
     fn trip(&mut self, axis: usize, code: u8) -> Result<(), Refusal>
         ensures meant { λ r. ⌜ Tripped (row-of (D·Drive .seen) (now (self .entry))) axis code r (row-of (D·Drive .seen) (now (self .exit))) ⌝ }
-        ensures exact { λ r. ⌜ Obeyed-or-not (D·Drive .obeys) (trip-with code) axis (now (self .entry) .drives) r (now (self .exit) .drives) ⌝ }
+        ensures exact { λ r. ⌜ Obeyed-or-not (D·Drive .obeys) (trip-with code) axis (now (self .entry)) r (now (self .exit)) ⌝ }
     {
         if axis >= self.count {
             return Err(Refusal::new(Reason::NoSuchAxis));
@@ -104,7 +104,7 @@ pub impl<D: Drive> Segment for Bank<D> as BankSegment {
 
     fn clear(&mut self, axis: usize) -> Result<(), Refusal>
         ensures meant { λ r. ⌜ Cleared (row-of (D·Drive .seen) (now (self .entry))) axis r (row-of (D·Drive .seen) (now (self .exit))) ⌝ }
-        ensures exact { λ r. ⌜ Obeyed-or-not (D·Drive .obeys) clear-it axis (now (self .entry) .drives) r (now (self .exit) .drives) ⌝ }
+        ensures exact { λ r. ⌜ Obeyed-or-not (D·Drive .obeys) clear-it axis (now (self .entry)) r (now (self .exit)) ⌝ }
     {
         if axis >= self.count {
             return Err(Refusal::new(Reason::NoSuchAxis));
@@ -115,7 +115,7 @@ pub impl<D: Drive> Segment for Bank<D> as BankSegment {
 
     fn cycle(&mut self)
         ensures meant { λ _. ⌜ Cycled (row-of (D·Drive .seen) (now (self .entry))) (row-of (D·Drive .seen) (now (self .exit))) ⌝ }
-        ensures exact { λ _. ⌜ All-cycled (D·Drive .obeys) (now (self .entry) .count) (now (self .entry) .drives) (now (self .exit) .drives) ⌝ }
+        ensures exact { λ _. ⌜ All-cycled (D·Drive .obeys) (now (self .entry)) (now (self .exit)) ⌝ }
     {
         for i in 0..self.count {
             self.drives[i].cycle();

@@ -39,13 +39,17 @@ demand-kept a b on calm c = elim (c .rest) [
 pub follow-is-shown : Follow-is-shown
 follow-is-shown before ordered after axis position accepted f c calm =
     let r = ready before axis position (f .0) in
-    let here : ordered .at axis ≡ followed position (before .at axis) = ap (λ row. row .at axis) (f .1) ∙ changed-here (followed position) before axis in
+    let here : ordered .at axis ≡ followed position (before .at axis) =
+    ap (λ row. row .at axis) (f .1) ∙ changed-here (followed position) before axis in
     let on : ordered .at axis .power ≡ On = ap (λ a. a .power) here ∙ r .on in
     let in-row : axis < ordered .count = subst (λ row. axis < row .count) (sym (f .1)) (r .there) in
     demand-kept (ordered .at axis) (after .at axis) on calm (c .each axis in-row) ∙ ap (λ a. a .demand) here
 
 -- a look after an accepted follow and a cycle is not refused
-pub moved-on : (before ordered after : Row) (axis : ℕ) (position : ℤ) (r : Result AxisLook Refusal) → Followed before axis position (Ok tt) ordered → Cycled ordered after → Looked after axis r → Moved before axis position r after
+pub moved-on :
+    (before ordered after : Row) (axis : ℕ) (position : ℤ) (r : Result AxisLook Refusal) →
+    Followed before axis position (Ok tt) ordered → Cycled ordered after → Looked after axis r →
+    Moved before axis position r after
 moved-on before ordered after axis position (Ok a) f c l = (ordered, f, c, l .1)
 moved-on before ordered after axis position (Err e) f c l =
     let here = ready before axis position (f .0) .there in

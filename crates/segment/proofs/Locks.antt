@@ -25,19 +25,27 @@ use Rattle.segment.proofs.Ready.{ready}
 -- ---- what a call keeps of an axis
 
 -- a call that does f to the axis k keeps P of an axis, if f does or if it is another axis
-kept-changed : (P : AxisLook → Type 0) (f : AxisLook → AxisLook) (row : Row) (k axis : ℕ) → (k ≡ axis → P (f (row .at axis))) → P (row .at axis) → P (changed f row k .at axis)
+kept-changed :
+    (P : AxisLook → Type 0) (f : AxisLook → AxisLook) (row : Row) (k axis : ℕ) → (k ≡ axis → P (f (row .at axis))) →
+    P (row .at axis) → P (changed f row k .at axis)
 kept-changed P f row k axis here there = elim (cases-eq axis k) [
   | inl e ↦ subst P (sym (cond-true (eqb axis k) (f (row .at axis)) (row .at axis) (eq-eqb axis k e))) (here (sym e))
   | inr ne ↦ subst P (sym (cond-false (eqb axis k) (f (row .at axis)) (row .at axis) (ne-eqb axis k ne))) there
 ]
 
 -- and so does a refused one
-kept-answered : (P : AxisLook → Type 0) (f : AxisLook → AxisLook) (reason : Option Reason) (row left : Row) (k axis : ℕ) (r : Result (Unit {0}) Refusal) → Answers reason row (changed f row k) r left → (k ≡ axis → P (f (row .at axis))) → P (row .at axis) → P (left .at axis)
-kept-answered P f reason row left k axis (Ok x) a here there = subst (λ row. P (row .at axis)) (sym (a .1)) (kept-changed P f row k axis here there)
+kept-answered :
+    (P : AxisLook → Type 0) (f : AxisLook → AxisLook) (reason : Option Reason) (row left : Row) (k axis : ℕ) (r : Result (Unit {0}) Refusal) →
+    Answers reason row (changed f row k) r left → (k ≡ axis → P (f (row .at axis))) → P (row .at axis) →
+    P (left .at axis)
+kept-answered P f reason row left k axis (Ok x) a here there =
+    subst (λ row. P (row .at axis)) (sym (a .1)) (kept-changed P f row k axis here there)
 kept-answered P f reason row left k axis (Err e) a here there = subst (λ row. P (row .at axis)) (sym (a .1)) there
 
 -- a row keeps its count
-count-answered : (f : AxisLook → AxisLook) (reason : Option Reason) (row left : Row) (k : ℕ) (r : Result (Unit {0}) Refusal) → Answers reason row (changed f row k) r left → left .count ≡ row .count
+count-answered :
+    (f : AxisLook → AxisLook) (reason : Option Reason) (row left : Row) (k : ℕ) (r : Result (Unit {0}) Refusal) →
+    Answers reason row (changed f row k) r left → left .count ≡ row .count
 count-answered f reason row left k (Ok x) a = ap (λ row. row .count) (a .1)
 count-answered f reason row left k (Err e) a = ap (λ row. row .count) (a .1)
 
@@ -66,15 +74,21 @@ off-kept-cycle a b c h = elim (c .rest) [
 ]
 
 -- off stays off, unless power is asked for
-off-turn : (before after : Row) (call : Call) (axis : ℕ) → axis < before .count → Turn before call after → Off-at (before .at axis) → Powers-now axis call ⊎ Off-at (after .at axis)
+off-turn :
+    (before after : Row) (call : Call) (axis : ℕ) → axis < before .count → Turn before call after →
+    Off-at (before .at axis) → Powers-now axis call ⊎ Off-at (after .at axis)
 off-turn before after (power-on k) axis lt t h = elim (cases-eq k axis) [
   | inl e ↦ inl e
   | inr ne ↦ inr (kept-answered Off-at powered _ before after k axis (t .0) (t .1) (λ e. absurd (ne e)) h)
 ]
-off-turn before after (power-off k) axis lt t h = inr (kept-answered Off-at unpowered _ before after k axis (t .0) (t .1) (λ _. tt) h)
-off-turn before after (follow k position) axis lt t h = inr (kept-answered Off-at (followed position) _ before after k axis (t .0) (t .1) (λ _. h) h)
-off-turn before after (trip k code) axis lt t h = inr (kept-answered Off-at (tripped code) _ before after k axis (t .0) (t .1) (λ _. tt) h)
-off-turn before after (clear k) axis lt t h = inr (kept-answered Off-at cleared _ before after k axis (t .0) (t .1) (λ _. h) h)
+off-turn before after (power-off k) axis lt t h =
+    inr (kept-answered Off-at unpowered _ before after k axis (t .0) (t .1) (λ _. tt) h)
+off-turn before after (follow k position) axis lt t h =
+    inr (kept-answered Off-at (followed position) _ before after k axis (t .0) (t .1) (λ _. h) h)
+off-turn before after (trip k code) axis lt t h =
+    inr (kept-answered Off-at (tripped code) _ before after k axis (t .0) (t .1) (λ _. tt) h)
+off-turn before after (clear k) axis lt t h =
+    inr (kept-answered Off-at cleared _ before after k axis (t .0) (t .1) (λ _. h) h)
 off-turn before after cycle axis lt t h = inr (off-kept-cycle (before .at axis) (after .at axis) (t .each axis lt) h)
 
 not-off : (power : Power) → power ≡ On → Is-off power → ⊥
@@ -82,8 +96,11 @@ not-off Off e h = let z : _≡_ {A = ℕ} 0 1 = cc in omega arith
 not-off Coming e h = h
 not-off On e h = h
 
-off-run : {before after : Row} {calls : List Call} (axis : ℕ) (position : ℤ) → Run before calls after → axis < before .count → Off-at (before .at axis) → follow-reason after axis position ≡ None → Powers axis calls
-off-run {after = after} axis position done lt h e = absurd (not-off (after .at axis .power) (ready after axis position e .on) h)
+off-run :
+    {before after : Row} {calls : List Call} (axis : ℕ) (position : ℤ) → Run before calls after →
+    axis < before .count → Off-at (before .at axis) → follow-reason after axis position ≡ None → Powers axis calls
+off-run {after = after} axis position done lt h e =
+    absurd (not-off (after .at axis .power) (ready after axis position e .on) h)
 off-run axis position (then {before = before} {next = next} {call = call} s t run) lt h e = elim (off-turn before next call axis lt t h) [
   | inl p ↦ inl p
   | inr k ↦ inr (off-run axis position run (omega (arith, count-kept before next call t)) k e)
@@ -106,16 +123,24 @@ faulted-kept-cycle a b c h = elim (c .rest) [
 ]
 
 -- a fault stays, unless it is cleared
-faulted-turn : (before after : Row) (call : Call) (axis : ℕ) → axis < before .count → Turn before call after → Faulted-at (before .at axis) → Clears-now axis call ⊎ Faulted-at (after .at axis)
-faulted-turn before after (power-on k) axis lt t h = inr (kept-answered Faulted-at powered _ before after k axis (t .0) (t .1) (λ _. h) h)
-faulted-turn before after (power-off k) axis lt t h = inr (kept-answered Faulted-at unpowered _ before after k axis (t .0) (t .1) (λ _. h) h)
-faulted-turn before after (follow k position) axis lt t h = inr (kept-answered Faulted-at (followed position) _ before after k axis (t .0) (t .1) (λ _. h) h)
-faulted-turn before after (trip k code) axis lt t h = inr (kept-answered Faulted-at (tripped code) _ before after k axis (t .0) (t .1) (λ _. faulted-tripped code (before .at axis) h) h)
+faulted-turn :
+    (before after : Row) (call : Call) (axis : ℕ) → axis < before .count → Turn before call after →
+    Faulted-at (before .at axis) → Clears-now axis call ⊎ Faulted-at (after .at axis)
+faulted-turn before after (power-on k) axis lt t h =
+    inr (kept-answered Faulted-at powered _ before after k axis (t .0) (t .1) (λ _. h) h)
+faulted-turn before after (power-off k) axis lt t h =
+    inr (kept-answered Faulted-at unpowered _ before after k axis (t .0) (t .1) (λ _. h) h)
+faulted-turn before after (follow k position) axis lt t h =
+    inr (kept-answered Faulted-at (followed position) _ before after k axis (t .0) (t .1) (λ _. h) h)
+faulted-turn before after (trip k code) axis lt t h =
+    inr
+    (kept-answered Faulted-at (tripped code) _ before after k axis (t .0) (t .1) (λ _. faulted-tripped code (before .at axis) h) h)
 faulted-turn before after (clear k) axis lt t h = elim (cases-eq k axis) [
   | inl e ↦ inl e
   | inr ne ↦ inr (kept-answered Faulted-at cleared _ before after k axis (t .0) (t .1) (λ e. absurd (ne e)) h)
 ]
-faulted-turn before after cycle axis lt t h = inr (faulted-kept-cycle (before .at axis) (after .at axis) (t .each axis lt) h)
+faulted-turn before after cycle axis lt t h =
+    inr (faulted-kept-cycle (before .at axis) (after .at axis) (t .each axis lt) h)
 
 -- a clear does not ask for power
 clear-no-power : (axis : ℕ) (call : Call) → Clears-now axis call → Powers-now axis call → ⊥
@@ -126,7 +151,10 @@ clear-no-power axis (trip k code) c p = c
 clear-no-power axis (clear k) c p = p
 clear-no-power axis cycle c p = c
 
-faulted-run : {before after : Row} {calls : List Call} (axis : ℕ) (position : ℤ) → Run before calls after → axis < before .count → Faulted-at (before .at axis) → follow-reason after axis position ≡ None → Clears-and-powers axis calls
+faulted-run :
+    {before after : Row} {calls : List Call} (axis : ℕ) (position : ℤ) → Run before calls after →
+    axis < before .count → Faulted-at (before .at axis) → follow-reason after axis position ≡ None →
+    Clears-and-powers axis calls
 faulted-run {after = after} axis position done lt h e = absurd (omega (arith, ready after axis position e .calm))
 faulted-run axis position (then {before = before} {next = next} {call = call} s t run) lt h e =
     let more : axis < next .count = omega (arith, count-kept before next call t) in

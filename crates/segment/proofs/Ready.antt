@@ -22,7 +22,10 @@ record Passed (there calm : Bool) (power : Power) : Type 0 where
   calm-is : calm ≡ true
   on : power ≡ On
 
-passed : (there calm range : Bool) (power : Power) → cond there (cond calm (unless-on power (cond range None (Some OutOfRange))) (Some Faulted)) (Some NoSuchAxis) ≡ None → Passed there calm power
+passed :
+    (there calm range : Bool) (power : Power) →
+    cond there (cond calm (unless-on power (cond range None (Some OutOfRange))) (Some Faulted)) (Some NoSuchAxis) ≡ None →
+    Passed there calm power
 passed true true range Off e = absurd (some-none e)
 passed true true range Coming e = absurd (some-none e)
 passed true true range On e = record { there-is = refl; calm-is = refl; on = refl }
@@ -37,5 +40,7 @@ pub record Ready (row : Row) (axis : ℕ) : Type 0 where
 
 pub ready : (row : Row) (axis : ℕ) (position : ℤ) → follow-reason row axis position ≡ None → Ready row axis
 ready row axis position e =
-    let p = passed (ltb axis (row .count)) (eqb (row .at axis .fault) 0) (in-range (row .at axis) position) (row .at axis .power) e in
+    let p =
+    passed (ltb axis (row .count)) (eqb (row .at axis .fault) 0) (in-range (row .at axis) position)
+    (row .at axis .power) e in
     record { there = ltb-true axis (row .count) (p .there-is); calm = eqb-true (row .at axis .fault) 0 (p .calm-is); on = p .on }

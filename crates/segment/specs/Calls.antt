@@ -71,7 +71,8 @@ unless-on On others = others
 
 -- an axis does not follow with a fault, without power, or out of its range
 abbrev pub ready-reason : AxisLook → ℤ → Option Reason
-ready-reason a position = cond (eqb (a .fault) 0) (unless-on (a .power) (cond (in-range a position) None (Some OutOfRange))) (Some Faulted)
+ready-reason a position =
+    cond (eqb (a .fault) 0) (unless-on (a .power) (cond (in-range a position) None (Some OutOfRange))) (Some Faulted)
 
 -- why a follow is refused
 abbrev pub follow-reason : Row → ℕ → ℤ → Option Reason
@@ -79,7 +80,8 @@ follow-reason row axis position = cond (ltb axis (row .count)) (ready-reason (ro
 
 -- why a trip is refused
 abbrev pub trip-reason : Row → ℕ → ℕ → Option Reason
-trip-reason row axis code = cond (ltb axis (row .count)) (cond (leb 1 code && leb code 15) None (Some TripCode)) (Some NoSuchAxis)
+trip-reason row axis code =
+    cond (ltb axis (row .count)) (cond (leb 1 code && leb code 15) None (Some TripCode)) (Some NoSuchAxis)
 
 -- ---- answers
 
@@ -103,7 +105,8 @@ Powered-off row axis r left = Answers (axis-reason row axis) row (changed unpowe
 
 -- what a follow answers and leaves
 abbrev pub Followed : Row → ℕ → ℤ → Result (Unit {0}) Refusal → Row → Type 0
-Followed row axis position r left = Answers (follow-reason row axis position) row (changed (followed position) row axis) r left
+Followed row axis position r left =
+    Answers (follow-reason row axis position) row (changed (followed position) row axis) r left
 
 -- what a trip answers and leaves
 abbrev pub Tripped : Row → ℕ → ℕ → Result (Unit {0}) Refusal → Row → Type 0

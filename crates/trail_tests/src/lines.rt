@@ -38,7 +38,26 @@ fn each_kind_has_its_line(rt: LibcRuntime) -> Result<(), Fail> {
     let text = text_of(rt.alloc(), &words)?;
     check(
         text.as_str()
-            == "accept 0 5 absolute abort\naccept 1 2 relative buffer\naccept 0 3 velocity buffer\naccept 0 6 halt abort\naccept 0 7 stop abort\nbegin 0 5\nend 0 5 done\nend 0 5 aborted\nend 0 5 error 2 0 15\nend 1 2 error 1 0 8\nend 7 31 error 2 15 12\nend 0 0 error 3 0 1\nstate 0 disabled standstill\nstate 1 stopping discrete\nstate 0 continuous errorstop\nplace 1\ncycle 1\ncycle 268435455\ntarget -1\n",
+            == "accept 0 5 absolute abort\n\
+                accept 1 2 relative buffer\n\
+                accept 0 3 velocity buffer\n\
+                accept 0 6 halt abort\n\
+                accept 0 7 stop abort\n\
+                begin 0 5\n\
+                end 0 5 done\n\
+                end 0 5 aborted\n\
+                end 0 5 error 2 0 15\n\
+                end 1 2 error 1 0 8\n\
+                end 7 31 error 2 15 12\n\
+                end 0 0 error 3 0 1\n\
+                state 0 disabled standstill\n\
+                state 1 stopping discrete\n\
+                state 0 continuous errorstop\n\
+                place 1\n\
+                cycle 1\n\
+                cycle 268435455\n\
+                target -1\n\
+                ",
     )
 }
 

@@ -43,7 +43,9 @@ pub data Arrow : DriveState → DriveState → Type 0 where
 
 -- whatever the order, a drive stays in its state or takes one arrow
 abbrev pub States-follow-arrows : Type 0
-States-follow-arrows = (order : Order) (x : Axis) → (cia402-after order x .state ≡ x .state) ⊎ Arrow (x .state) (cia402-after order x .state)
+States-follow-arrows =
+    (order : Order) (x : Axis) → (cia402-after order x .state ≡ x .state) ⊎ Arrow (x .state)
+    (cia402-after order x .state)
 
 -- the state after n cycles under a request
 abbrev pub after-cycles : ℕ → DriveState → DriveState

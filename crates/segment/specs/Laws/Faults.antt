@@ -32,7 +32,9 @@ Turn before cycle after = Cycled before after
 -- a run of calls, from the first to the last, over sound rows
 pub data Run : Row → List Call → Row → Type 0 where
   done : {row : Row} → Run row [] row
-  then : {before next after : Row} {call : Call} {calls : List Call} → Sound-row before → Turn before call next → Run next calls after → Run before (call ∷ calls) after
+  then :
+      {before next after : Row} {call : Call} {calls : List Call} → Sound-row before → Turn before call next →
+      Run next calls after → Run before (call ∷ calls) after
 
 -- a call asks for power for the axis
 abbrev pub Powers-now : ℕ → Call → Type 0

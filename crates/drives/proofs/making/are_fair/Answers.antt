@@ -7,7 +7,8 @@ use Rattle.drives.proofs.making.are_fair.Needs as need
 
 pub returns : need.returns
 returns c =
-    fair-from (c .args .count) (c .args .start) (c .args .low) (c .args .high) (c .is-position .result) (c .is-position-2 .result) (c .is-position-3 .result)
+    fair-from (c .args .count) (c .args .start) (c .args .low) (c .args .high) (c .is-position .result)
+    (c .is-position-2 .result) (c .is-position-3 .result)
     (c .is-position .ensures ∙ ap is-position (toZ-ofZ w32 (c .args .start) (c .fits .start)))
     (c .is-position-2 .ensures ∙ ap is-position (toZ-ofZ w32 (c .args .low) (c .fits .low)))
     (c .is-position-3 .ensures ∙ ap is-position (toZ-ofZ w32 (c .args .high) (c .fits .high)))

@@ -17,7 +17,9 @@ new-cia402-axis-requires c κs =
     let fl : SFits w32 (c .args .low) = c .fits .low in
     let fh : SFits w32 (c .args .high) = c .fits .high in
     let fg : SFits w32 (c .args .lag) = c .fits .lag in
-    let good = fair-means (c .args .count) (c .args .start) (c .args .low) (c .args .high) (sym (simp toZ-ofZ at (c .if-not-are-fair .ensures tt))) in
+    let good =
+    fair-means (c .args .count) (c .args .start) (c .args .low) (c .args .high)
+    (sym (simp toZ-ofZ at (c .if-not-are-fair .ensures tt))) in
     let slow = lag-means (c .args .lag) (sym (simp toZ-ofZ at (c .if-not-is-fair-lag .ensures tt))) in
     record { start = as-passed Position (c .args .start) fs (good .start-in); low = as-passed Position (c .args .low) fl (good .low-in); high = as-passed Position (c .args .high) fh (good .high-in); lag = as-passed Lag (c .args .lag) fg slow }
 
@@ -36,7 +38,9 @@ returns c =
     let is = simp toZ-ofZ at (c .new-cia402-axis .ensures) in
     record {
       made = record {
-        settings = and-from _ _ (sym (simp toZ-ofZ at (c .if-not-are-fair .ensures tt))) (sym (simp toZ-ofZ at (c .if-not-is-fair-lag .ensures tt)));
+        settings =
+            and-from _ _ (sym (simp toZ-ofZ at (c .if-not-are-fair .ensures tt)))
+            (sym (simp toZ-ofZ at (c .if-not-is-fair-lag .ensures tt)));
         axes = refl;
         each = λ k d h. ap parts (each-filled 8 k (c .new-cia402-axis .result) d h) ∙ is;
       };

@@ -11,7 +11,9 @@ new-virtual-axis-requires c κs =
     let fs : SFits w32 (c .args .start) = c .fits .start in
     let fl : SFits w32 (c .args .low) = c .fits .low in
     let fh : SFits w32 (c .args .high) = c .fits .high in
-    let good = fair-means (c .args .count) (c .args .start) (c .args .low) (c .args .high) (sym (simp toZ-ofZ at (c .if-not-are-fair .ensures tt))) in
+    let good =
+    fair-means (c .args .count) (c .args .start) (c .args .low) (c .args .high)
+    (sym (simp toZ-ofZ at (c .if-not-are-fair .ensures tt))) in
     record { start = as-passed Position (c .args .start) fs (good .start-in); low = as-passed Position (c .args .low) fl (good .low-in); high = as-passed Position (c .args .high) fh (good .high-in) }
 
 pub returns : need.returns

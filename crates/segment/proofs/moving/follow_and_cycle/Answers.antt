@@ -18,7 +18,10 @@ returns g c =
     let fits : SFits w32 (c .args .position) = c .fits .position in
     let followed = simp toZ-ofZ at (c .in-Continue-follow .ensures tt) in
     record {
-      moved = moved-on (g .S·Segment .shows (c .args .segment .now)) (g .S·Segment .shows (c .follow .last .self)) (g .S·Segment .shows (c .cycle .last .self)) (c .args .axis) (c .args .position) (c .look .result) followed (c .cycle .ensures) (c .look .ensures);
+      moved =
+          moved-on (g .S·Segment .shows (c .args .segment .now)) (g .S·Segment .shows (c .follow .last .self))
+          (g .S·Segment .shows (c .look-after-cycle .last .segment)) (c .args .axis) (c .args .position) (c .look-after-cycle .result) followed
+          (c .look-after-cycle .ensures .cycled) (c .look-after-cycle .ensures .looked);
       shown = follow-is-shown;
       locked = faults-lock-out;
     }

@@ -10,6 +10,8 @@ pub returns : need.returns
 returns g c =
     let gone = c .loop-i .inv .1 .0 in
     record {
-      meant = shown-cycled (g .D·Drive .seen) (c .args .self .now .count) _ _ _ (c .loop-i .inv .0) (omega arith) (omega arith) (λ k d h. gone k d (omega arith) .shows);
+      meant =
+          shown-cycled (g .D·Drive .seen) (c .args .self .now .count) _ _ _ (c .loop-i .inv .0) (omega arith)
+          (omega arith) (λ k d h. gone k d (omega arith) .shows);
       exact = λ k d h. gone k d (omega arith) .exact;
     }

@@ -7,6 +7,9 @@ use Rattle.drives.proofs.row.BankSegment.trip.Needs as need
 
 pub returns : need.returns
 returns g c = record {
-  meant = (search needs, shown-changed _ _ _ (omega arith) (tripped (c .args .code)) _ _ _ (c .if-axis-self .left) (c .trip .ensures .shows));
-  exact = obeyed-set (g .D·Drive .obeys) (trip-with (c .args .code)) (c .args .axis) _ _ _ (omega arith) (c .trip .ensures .exact);
+  meant =
+      (search needs, shown-changed _ _ _ (omega arith) (tripped (c .args .code)) _ _ _ (c .if-axis-self .left) (c .trip .ensures .shows));
+  exact =
+      obeyed-set (g .D·Drive .obeys) (trip-with (c .args .code)) (c .args .axis) _ _ _ (omega arith)
+      (c .trip .ensures .exact);
 }
