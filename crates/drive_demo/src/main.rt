@@ -50,9 +50,11 @@ fn show(rt: &LibcRuntime, call: &str, line: &Line) -> io::Result<()> {
     let demand = look.demand;
     let actual = look.actual;
     let fault = look.fault;
+    let low = look.low;
+    let high = look.high;
     println!(
         rt,
-        "{call}: power {power}, demand {demand}, actual {actual}, fault {fault}; {state}"
+        "{call}: power {power}, demand {demand}, actual {actual}, fault {fault}, range {low} to {high}; {state}"
     )
 }
 
