@@ -1,5 +1,7 @@
 //! Powers a CiA 402 axis on, leads it to a target through soft limits and a mirror, trips it, clears it, and prints
 //! how the axis looks and the state of its drive after each call.
+#![tactic(auto)]
+
 use drives::drive::Drive;
 use drives::{Bank, Cia402Axis, DriveState, cia402_segment};
 use segment::{Power, Refusal, Segment};

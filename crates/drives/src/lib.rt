@@ -1,4 +1,6 @@
 //! The two segments at the bottom: rows of virtual axes and of CiA 402 drives.
+#![tactic(auto)]
+
 pub mod bank;
 pub mod cia402;
 pub mod cia402_drive;

@@ -1,4 +1,6 @@
 //! The law that holds at every point of every run of a sequencer, and the calls that carry it.
+#![tactic(auto)]
+
 pub mod calling;
 pub mod order;
 pub mod playing;

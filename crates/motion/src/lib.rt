@@ -1,4 +1,6 @@
 //! Table, trail and segment together: errorstop, the orders of a cycle, and what its axes do after it.
+#![tactic(auto)]
+
 pub mod failing;
 pub mod ordering;
 pub mod segments;

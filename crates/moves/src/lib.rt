@@ -1,4 +1,6 @@
 //! The sequencer's table and the moves by which table and trail change together.
+#![tactic(auto)]
+
 pub mod accepting;
 pub mod aim;
 pub mod aiming;

@@ -1,4 +1,6 @@
 //! How fast an axis may step: the ramp step of a move, and the step of a velocity.
+#![tactic(auto)]
+
 mod begin;
 mod braking;
 mod motion;

@@ -1,4 +1,6 @@
 //! The ramp step for a caller in C, to be measured.
+#![tactic(auto)]
+
 ghost use Rattle.std.specs.Prelude.{◌≡◌, ◌-ℤ◌};
 ghost use Rattle.ramp_bench.specs.Measured.{measured_step};
 

@@ -1,4 +1,6 @@
 //! Drive segments: a row of axes, what each call makes of it, and why a call is refused.
+#![tactic(auto)]
+
 pub mod axis;
 pub mod meaning;
 pub mod moving;

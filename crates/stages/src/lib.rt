@@ -1,4 +1,6 @@
 //! Two stages over any drive segment: a mirror and soft limits.
+#![tactic(auto)]
+
 mod handing_up;
 mod limits;
 pub mod mirror;

@@ -1,4 +1,6 @@
 //! Cases of the trail's rules, with their numbers.
+#![tactic(auto)]
+
 #[cfg(test)]
 mod files;
 #[cfg(test)]

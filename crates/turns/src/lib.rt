@@ -1,4 +1,6 @@
 //! How far an axis steps, and what it does after the segment's cycle: decisions that change nothing.
+#![tactic(auto)]
+
 pub mod beginning;
 pub mod blocks;
 pub mod deciding;
