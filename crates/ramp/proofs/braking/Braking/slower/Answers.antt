@@ -2,11 +2,11 @@ use Rattle.std.proofs.Common.{arith}
 use Rattle.ramp.proofs.Series.{series, slower, slower_moves}
 use Rattle.ramp.proofs.braking.Braking.slower.Goals as goal
 
-pub overflow-sub-excess : goal.overflow-sub-excess
-overflow-sub-excess c = omega (arith, (slower _ _ _ _ c.args.distance (omega arith) (series c.args.self) c.requires.fast).under)
+pub overflow_sub-excess : goal.overflow_sub-excess
+overflow_sub-excess c = omega (arith, (slower _ _ _ _ c.args.distance (omega arith) (series c.args.self) c.requires.fast).under)
 
-pub overflow-sub-result : goal.overflow-sub-result
-overflow-sub-result c = (slower _ _ _ _ _ (omega arith) (series c.args.self) c.requires.fast).fits
+pub overflow_sub-result : goal.overflow_sub-result
+overflow_sub-result c = (slower _ _ _ _ _ (omega arith) (series c.args.self) c.requires.fast).fits
 
 pub returns : goal.returns
 returns c =

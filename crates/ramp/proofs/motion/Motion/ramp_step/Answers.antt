@@ -10,7 +10,7 @@ pub returns : goal.returns
 returns c =
     let motion = c.args.self in
     let top = c.args.ramp.max_velocity in
-    let step = c.step-towards-step in
+    let step = c.step_towards-step in
     let fits : SFits w32 step.result = search rules in
     let near = near_step motion.distance_to_go motion.velocity step.result _ _ _ (omega arith) top.most step.ensures.step motion.near in
     record {
