@@ -21,7 +21,7 @@ invariant_of-result c =
       reach = omega (arith, ints);
       speed = omega (arith, ints);
     } in
-    (simp to_z-of_z (near_begin c.args.distance_to_go c.args.velocity begins), tt)
+    record { near = simp to_z-of_z (near_begin c.args.distance_to_go c.args.velocity begins) }
 
 pub returns : goal.returns
 returns c =
