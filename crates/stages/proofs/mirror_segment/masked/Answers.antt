@@ -10,5 +10,5 @@ past mask axis small far =
     let none : mask / 2 ^ axis ≡ 0 = div-eq_of_lt (omega arith) in
     ap (λ n. eqb (n % 2) 1) none
 
-pub returns-else-axis-lt-MASK-BITS : goal.returns-else-axis-lt-MASK-BITS
-returns-else-axis-lt-MASK-BITS c = sym (past c.args.mask c.args.axis (omega arith) c.if-axis-lt-MASK-BITS.false)
+pub returns-else-axis-lt-MASK_BITS : goal.returns-else-axis-lt-MASK_BITS
+returns-else-axis-lt-MASK_BITS c = sym (past c.args.mask c.args.axis (omega arith) c.if-axis-lt-MASK_BITS.false)
