@@ -4,14 +4,14 @@ use Rattle.segment.specs.Row.{Position}
 use Rattle.drives.proofs.Fair.{fair_means, each_filled, as_passed}
 use Rattle.drives.proofs.making.virtual_segment.Goals as goal
 
-pub new-virtual-axis-requires : goal.new-virtual-axis-requires
-new-virtual-axis-requires c =
+pub new_virtual-axis-requires : goal.new_virtual-axis-requires
+new_virtual-axis-requires c =
     let fs : SFits w32 c.args.start = c.ranges.start in
     let fl : SFits w32 c.args.low = c.ranges.low in
     let fh : SFits w32 c.args.high = c.ranges.high in
     let good =
     fair_means c.args.count c.args.start c.args.low c.args.high
-    (sym (simp to_z-of_z at c.if-not-are-fair.ensures)) in
+    (sym (simp to_z-of_z at c.if-not-are_fair.ensures)) in
     record { start = as_passed Position c.args.start fs good.start_in; low = as_passed Position c.args.low fl good.low_in; high = as_passed Position c.args.high fh good.high_in }
 
 pub returns : goal.returns
@@ -19,5 +19,5 @@ returns c =
     let fs : SFits w32 c.args.start = c.ranges.start in
     let fl : SFits w32 c.args.low = c.ranges.low in
     let fh : SFits w32 c.args.high = c.ranges.high in
-    let look = simp to_z-of_z at c.new-virtual-axis.ensures in
-    record { settings = sym (simp to_z-of_z at c.if-not-are-fair.ensures); axes = refl; each = λ k d h. ap (λ x. x.look) (each_filled 8 k c.new-virtual-axis.result d h) ∙ look }
+    let look = simp to_z-of_z at c.new_virtual-axis.ensures in
+    record { settings = sym (simp to_z-of_z at c.if-not-are_fair.ensures); axes = refl; each = λ k d h. ap (λ x. x.look) (each_filled 8 k c.new_virtual-axis.result d h) ∙ look }
