@@ -48,22 +48,49 @@ pub fn block_of(axis: u8, instruction: Instruction, mode: BufferMode) -> Block
     let command = command_of(instruction);
     match instruction {
         Instruction::Absolute {
-            position: value,
+            position,
             max_velocity,
             max_acceleration,
-        }
-        | Instruction::Relative {
-            distance: value,
+        } => waiting_block(
+            axis,
+            command,
+            mode,
+            position,
             max_velocity,
             max_acceleration,
-        } => waiting_block(axis, command, mode, value, max_velocity, max_acceleration),
+        ),
+        Instruction::Relative {
+            distance,
+            max_velocity,
+            max_acceleration,
+        } => waiting_block(
+            axis,
+            command,
+            mode,
+            distance,
+            max_velocity,
+            max_acceleration,
+        ),
         Instruction::Velocity {
             velocity,
             max_acceleration,
         } => waiting_block(axis, command, mode, velocity, 0, max_acceleration),
-        Instruction::Halt { max_acceleration } | Instruction::Stop { max_acceleration } => {
-            waiting_block(axis, command, mode, 0, 0, max_acceleration)
-        }
+        Instruction::Halt { max_acceleration } => waiting_block(
+            axis,
+            command,
+            mode,
+            0,
+            0,
+            max_acceleration,
+        ),
+        Instruction::Stop { max_acceleration } => waiting_block(
+            axis,
+            command,
+            mode,
+            0,
+            0,
+            max_acceleration,
+        ),
     }
 }
 

@@ -13,9 +13,9 @@ returns-in-Some c = record {
   axes = refl;
 }
 
-pub returns-in-default : goal.returns-in-default
+pub returns-in_default : goal.returns-in_default
 unfolding begun
-returns-in-default c = record {
+returns-in_default c = record {
   sheet = search rules;
   used = omega arith;
   room = search rules;

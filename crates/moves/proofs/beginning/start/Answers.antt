@@ -17,7 +17,7 @@ enter-requires c =
     let distance = distance_to args.target args.demand in
     let speed = (pre.sized.near args.axis).0 in
     let begins = distance_begins args.target args.demand old.velocity pre.target pre.demand speed in
-    let next : c.under-command-next.result ≡ under_command old args.block command distance args.queue args.waiting =
+    let next : c.under_command-next.result ≡ under_command old args.block command distance args.queue args.waiting =
     search rules in
     record {
       axis = pre.axis;

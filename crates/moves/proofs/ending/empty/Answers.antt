@@ -12,5 +12,5 @@ returns c =
       sheet = search rules;
       used = omega arith;
       room = search rules;
-      sized = sized_with_axis _ c.args.axis _ c.end-queue.ensures.sized next;
+      sized = sized_with_axis _ c.args.axis _ c.end_queue.ensures.sized next;
     }

@@ -7,7 +7,7 @@ pub returns : goal.returns
 unfolding finished
 returns c =
     let old = sized_at c.requires.sized c.args.axis in
-    let next = sized_without_active c.without-active-next.ensures old in
+    let next = sized_without_active c.without_active-next.ensures old in
     record {
       sheet = search rules;
       used = omega arith;

@@ -3,9 +3,9 @@ use Rattle.moves.specs.Moves.{entered}
 use Rattle.moves.proofs.Sized.{sized_with_axis}
 use Rattle.moves.proofs.entering.enter.Goals as goal
 
-pub returns-then-is-same : goal.returns-then-is-same
+pub returns-then-is_same : goal.returns-then-is_same
 unfolding entered
-returns-then-is-same c = record {
+returns-then-is_same c = record {
   sheet = search rules;
   used = omega arith;
   room = search rules;

@@ -6,7 +6,7 @@ use Rattle.moves.proofs.entering.quell.Goals as goal
 pub enter-requires : goal.enter-requires
 enter-requires c = record {
   axis = c.requires.axis;
-  next = sized_halted c.halted-in-next.ensures (sized_at c.empty.ensures.sized c.args.axis);
+  next = sized_halted c.halted_in-next.ensures (sized_at c.empty.ensures.sized c.args.axis);
   room = omega arith;
   sized = c.empty.ensures.sized;
 }
