@@ -3,8 +3,8 @@ use Rattle.turns.specs.Turns.{next_of}
 use Rattle.turns.proofs.Aims.{aim_reaches}
 use Rattle.turns.proofs.beginning.next_of.Goals as goal
 
-pub next-by-requires : goal.next-by-requires
-next-by-requires c = rw c.aim_of.ensures (aim_reaches c.args.block c.args.look c.requires)
+pub next_by-requires : goal.next_by-requires
+next_by-requires c = rw c.aim_of.ensures (aim_reaches c.args.block c.args.look c.requires)
 
 pub returns-then-axis-eq0 : goal.returns-then-axis-eq0
 unfolding next_of

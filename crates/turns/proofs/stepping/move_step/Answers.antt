@@ -27,7 +27,7 @@ returns c =
     let s = c.ramp_step.result.0 in
     let ramped = simp to_z-of_z at c.ramp_step.ensures.step in
     let less = simp to_z-of_z at c.ramp_step.ensures.remaining in
-    let step = step_of_move y c.args.block _ _ s c.requires.moves c.held-rate-max-velocity.ensures c.held-rate-max-acceleration.ensures ramped in
+    let step = step_of_move y c.args.block _ _ s c.requires.moves c.held_rate-max_velocity.ensures c.held_rate-max_acceleration.ensures ramped in
     record {
       step = step;
       remaining = remaining_of_move y c.args.block s _ c.requires.moves step less;
