@@ -5,12 +5,12 @@ use Rattle.segment.specs.Row.{Row}
 use Rattle.motion.proofs.Refused.{noted_refused, lawful_refused, row_refused, noted_followed, row_followed}
 use Rattle.motion.proofs.ordering.follow.Goals as goal
 
-pub returns-in-err-follow : goal.returns-in-err-follow
-returns-in-err-follow g c =
+pub returns-in_err-follow : goal.returns-in_err-follow
+returns-in_err-follow g c =
     let fits : SFits w32 c.args.position = c.ranges.position in
-    let p = err_from_is_err_and c.from-residual.result c.from-residual.ensures.1 in
-    let refused = simp to_z-of_z at c.in-err-follow.ensures in
-    let refusal = c.in-err-follow.field-0.0 in
+    let p = err_from_is_err_and c.from_residual.result c.from_residual.ensures.1 in
+    let refused = simp to_z-of_z at c.in_err-follow.ensures in
+    let refusal = c.in_err-follow.field-0.0 in
     let row = g.S.Segment.shows c.args.segment.now in
     let left = g.S.Segment.shows c.follow.new.self in
     let axis = c.args.axis in
@@ -25,7 +25,7 @@ returns-in-err-follow g c =
 pub returns : goal.returns
 returns g c =
     let fits : SFits w32 c.args.position = c.ranges.position in
-    let followed = simp to_z-of_z at c.in-ok-follow.ensures in
+    let followed = simp to_z-of_z at c.in_ok-follow.ensures in
     let row = g.S.Segment.shows c.args.segment.now in
     let left = g.S.Segment.shows c.follow.new.self in
     record {

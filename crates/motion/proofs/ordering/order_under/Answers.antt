@@ -29,18 +29,18 @@ returns g c =
     let axis = c.args.axis in
     let block = c.args.block in
     let old : Axis = axis_at table axis in
-    let demand = c.look-at.result.demand in
+    let demand = c.look_at.result.demand in
     let velocity = c.stepped-next.result.velocity in
     let demand_fits : SFits w32 demand = search rules in
     let velocity_fits : SFits w32 velocity = search rules in
     let fits : SFits w32 (demand +ℤ velocity) =
-    sum_fits demand velocity c.look-at.ensures.sound.demand c.stepped-next.ensures.near.0 in
+    sum_fits demand velocity c.look_at.ensures.sound.demand c.stepped-next.ensures.near.0 in
     let followed = simp to_z-of_z at c.follow.ensures.row in
     let noted = simp to_z-of_z at c.follow.ensures.noted in
     let next : c.stepped-next.result ≡ stepped old (block_at table block) =
     c.stepped-next.ensures.stepped ∙ ap (λ (x : Block). stepped old x) c.active_block.ensures in
     let goes : demand +ℤ velocity ≡ (row.at axis).demand +ℤ step_of old (block_at table block) =
-    ap (λ (p : ℤ). p +ℤ velocity) (ap (λ look. look.demand) c.look-at.ensures.look)
+    ap (λ (p : ℤ). p +ℤ velocity) (ap (λ look. look.demand) c.look_at.ensures.look)
     ∙ ap (λ (v : ℤ). (row.at axis).demand +ℤ v) (ap (λ (y : Axis). y.velocity) next) in
     let answer = sym c.err.ensures.value in
     record {

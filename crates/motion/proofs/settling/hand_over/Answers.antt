@@ -13,32 +13,32 @@ use Rattle.motion.proofs.settling.hand_over.Goals as goal
 pub enter-requires : goal.enter-requires
 enter-requires g c = record {
   axis = omega (arith, (g.S.Segment.sound c.args.segment.now).few);
-  next = sized_in_state c.with-state-next.ensures (sized_at c.requires.sized c.args.axis);
+  next = sized_in_state c.with_state-next.ensures (sized_at c.requires.sized c.args.axis);
   room = omega arith;
   sized = c.requires.sized;
 }
 
-pub overflow-sub-old : goal.overflow-sub-old
-overflow-sub-old g c =
+pub overflow_sub-old : goal.overflow_sub-old
+overflow_sub-old g c =
     let y : Axis = axis_at c.args.table.now c.args.axis in
     let first =
-    first_of y c.first-block.result c.look-at-look.result c.in-Begin.block c.in-Begin.target
+    first_of y c.first_block.result c.look_at-look.result c.in-Begin.block c.in-Begin.target
     (c.requires.sized.queued c.args.axis 0) c.in-Begin.ensures.next in
     first.waits
 
 pub start-requires : goal.start-requires
 start-requires g c =
     let y : Axis = axis_at c.args.table.now c.args.axis in
-    let demand = c.look-at-look.result.demand in
+    let demand = c.look_at-look.result.demand in
     let fits : SFits w32 demand = search rules in
     let first =
-    first_of y c.first-block.result c.look-at-look.result c.in-Begin.block c.in-Begin.target
+    first_of y c.first_block.result c.look_at-look.result c.in-Begin.block c.in-Begin.target
     (c.requires.sized.queued c.args.axis 0) c.in-Begin.ensures.next in
     record {
       axis = omega (arith, (g.S.Segment.sound c.args.segment.now).few);
       block = first.named;
       target = reaches_target c.in-Begin.block c.in-Begin.target c.in-Begin.ensures.reach;
-      demand = simp to_z-of_z (position_in_reach demand c.look-at-look.ensures.sound.demand);
+      demand = simp to_z-of_z (position_in_reach demand c.look_at-look.ensures.sound.demand);
       queue =
           subst (λ (queue : List ℕ). (k : ℕ) → get_or queue k 0 < 32) (sym c.shifted-queue.ensures)
           (shifted_named y.queue (c.requires.sized.queued c.args.axis));
@@ -53,11 +53,11 @@ returns-in-Nothing g c =
     let w = world row c.args.table.now c.args.trail.now in
     let v = world row c.enter.new.table c.enter.new.trail in
     let y : Axis = axis_at c.args.table.now c.args.axis in
-    let rests = c.with-state-next.ensures ∙ ap (λ (state : AxisState). with_state y state) c.rest_state.ensures in
+    let rests = c.with_state-next.ensures ∙ ap (λ (state : AxisState). with_state y state) c.rest_state.ensures in
     record {
       world =
-          handed_nothing w v c.args.axis c.first-block.result c.look-at-look.result c.first-block.ensures
-          c.look-at-look.ensures.look c.with-state-next.result c.in-Nothing.ensures.next rests
+          handed_nothing w v c.args.axis c.first_block.result c.look_at-look.result c.first_block.ensures
+          c.look_at-look.ensures.look c.with_state-next.result c.in-Nothing.ensures.next rests
           (ap (λ (s : Sheet). on_sheet w s) c.enter.ensures.sheet);
       used = omega arith;
       room = c.enter.ensures.room;
@@ -70,12 +70,12 @@ returns-in-Begin g c =
     let row = g.S.Segment.shows c.args.segment.now in
     let w = world row c.args.table.now c.args.trail.now in
     let v = world row c.start.new.table c.start.new.trail in
-    let fits : SFits w32 c.look-at-look.result.demand = search rules in
+    let fits : SFits w32 c.look_at-look.result.demand = search rules in
     let begun = simp to_z-of_z at c.start.ensures.sheet in
     record {
       world =
-          handed_begin w v c.args.axis c.first-block.result c.look-at-look.result c.first-block.ensures
-          c.look-at-look.ensures.look c.in-Begin.block c.in-Begin.target c.shifted-queue.result
+          handed_begin w v c.args.axis c.first_block.result c.look_at-look.result c.first_block.ensures
+          c.look_at-look.ensures.look c.in-Begin.block c.in-Begin.target c.shifted-queue.result
           c.in-Begin.ensures.next c.shifted-queue.ensures (ap (λ (s : Sheet). on_sheet w s) begun);
       used = omega arith;
       room = c.start.ensures.room;
@@ -90,8 +90,8 @@ returns-in-OutOfRange g c =
     let v = world (g.S.Segment.shows c.fail.new.segment) c.fail.new.table c.fail.new.trail in
     record {
       world =
-          handed_out w v c.args.axis c.first-block.result c.look-at-look.result c.first-block.ensures
-          c.look-at-look.ensures.look c.in-OutOfRange.ensures.next c.fail.ensures.world;
+          handed_out w v c.args.axis c.first_block.result c.look_at-look.result c.first_block.ensures
+          c.look_at-look.ensures.look c.in-OutOfRange.ensures.next c.fail.ensures.world;
       used = c.fail.ensures.used;
       room = c.fail.ensures.room;
       sized = c.fail.ensures.sized;
