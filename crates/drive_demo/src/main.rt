@@ -2,7 +2,6 @@
 //! how the axis looks and the state of its drive after each call.
 #![tactic(auto)]
 
-use drives::drive::Drive;
 use drives::{Bank, Cia402Axis, DriveState, cia402_segment};
 use segment::{Power, Refusal, Segment};
 use stages::{Mirror, SoftLimits};
