@@ -48,15 +48,15 @@ pub(crate) fn within_limits(instruction: Instruction, mode: BufferMode) -> bool
 {
     match instruction {
         Instruction::Absolute {
-            position: increments,
+            position,
             max_velocity,
             max_acceleration,
-        }
-        | Instruction::Relative {
-            distance: increments,
+        } => is_distance(position) & is_rate(max_velocity) & is_rate(max_acceleration),
+        Instruction::Relative {
+            distance,
             max_velocity,
             max_acceleration,
-        } => is_distance(increments) & is_rate(max_velocity) & is_rate(max_acceleration),
+        } => is_distance(distance) & is_rate(max_velocity) & is_rate(max_acceleration),
         Instruction::Velocity {
             velocity,
             max_acceleration,

@@ -9,11 +9,11 @@ returns g c =
     let shows = g.S.Segment.shows in
     let trail = c.tick.new.trail in
     let shown = shows c.cycle.new.self in (
-      c.in-ok-check-cycle.ensures,
+      c.in_ok-check_cycle.ensures,
       cycle_left (world_of shows c.args.self.now c.args.trail.now) (sheet c.tick.new.table trail)
-          (world (shows c.order-all-refusals.new.segment) c.order-all-refusals.new.table trail)
-          (world (shows c.settle-all.new.segment) c.settle-all.new.table c.settle-all.new.trail)
-          c.order-all-refusals.result shown c.axes-count.result c.tick.ensures.sheet c.axes-count.ensures
-          (c.order-all-refusals.ensures.world trail) (c.order-all-refusals.ensures.noted trail)
-          (g.S.Segment.sound c.cycle.new.self) c.cycle.ensures c.settle-all.ensures.world,
+          (world (shows c.order_all-refusals.new.segment) c.order_all-refusals.new.table trail)
+          (world (shows c.settle_all.new.segment) c.settle_all.new.table c.settle_all.new.trail)
+          c.order_all-refusals.result shown c.axes-count.result c.tick.ensures.sheet c.axes-count.ensures
+          (c.order_all-refusals.ensures.world trail) (c.order_all-refusals.ensures.noted trail)
+          (g.S.Segment.sound c.cycle.new.self) c.cycle.ensures c.settle_all.ensures.world,
     )

@@ -4,4 +4,4 @@ use Rattle.sequencer.proofs.sequencer.Sequencer.power_on.Goals as goal
 
 pub returns : goal.returns
 unfolding powered_on
-returns g c = (c.in-ok-check-power.ensures, search rules)
+returns g c = (c.in_ok-check_power.ensures, search rules)

@@ -4,4 +4,4 @@ use Rattle.sequencer.proofs.sequencer.Sequencer.release.Goals as goal
 
 pub returns : goal.returns
 unfolding released
-returns g c = (c.in-ok-check-release.ensures, search rules)
+returns g c = (c.in_ok-check_release.ensures, search rules)

@@ -4,4 +4,4 @@ use Rattle.sequencer.proofs.sequencer.Sequencer.reset.Goals as goal
 
 pub returns : goal.returns
 unfolding reset_world
-returns g c = (c.in-ok-check-reset.ensures, search rules)
+returns g c = (c.in_ok-check_reset.ensures, search rules)

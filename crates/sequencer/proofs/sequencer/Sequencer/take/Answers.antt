@@ -19,17 +19,17 @@ accept-requires g c = record {
   sized = search rules;
 }
 
-pub take-on-requires : goal.take-on-requires
-take-on-requires g c =
+pub take_on-requires : goal.take_on-requires
+take_on-requires g c =
     let args = c.args in
-    let look = c.look-at-look.result in
-    let sound = c.look-at-look.ensures.sound in
+    let look = c.look_at-look.result in
+    let sound = c.look_at-look.ensures.sound in
     let fits : SFits w32 look.demand = position_fits look.demand sound.demand in
-    let block = c.block-of.result in
+    let block = c.block_of.result in
     let axes =
     accepted_axes (sheet args.self.now.table args.trail.now) (sheet c.accept.new.table c.accept.new.trail)
     args.axis args.block args.instruction args.mode c.accept.ensures.sheet in
-    let target : c.target-of-target.result ≡ target_of (block_aim block look) = search rules in
+    let target : c.target_of-target.result ≡ target_of (block_aim block look) = search rules in
     record {
       axis = omega (arith, c.requires.axis, (g.S.Segment.sound args.self.now.segment).few);
       block = c.requires.block;
@@ -44,13 +44,13 @@ take-on-requires g c =
 pub returns : goal.returns
 returns g c =
     let args = c.args in
-    let look = c.look-at-look.result in
-    let sound = c.look-at-look.ensures.sound in
+    let look = c.look_at-look.result in
+    let sound = c.look_at-look.ensures.sound in
     let fits : SFits w32 look.demand = position_fits look.demand sound.demand in
-    let shown = c.look-at-look.ensures.look in
+    let shown = c.look_at-look.ensures.look in
     let w = world_of g.S.Segment.shows args.self.now args.trail.now in
-    let target : c.target-of-target.result ≡ target_of (block_aim (block_of args.axis args.instruction args.mode) (w.row.at args.axis)) = search rules in
-    executed_on w args.block args.axis args.instruction args.mode c.waits-waits.result c.target-of-target.result
-    look.demand (sheet c.accept.new.table c.accept.new.trail) (sheet c.take-on.new.table c.take-on.new.trail)
+    let target : c.target_of-target.result ≡ target_of (block_aim (block_of args.axis args.instruction args.mode) (w.row.at args.axis)) = search rules in
+    executed_on w args.block args.axis args.instruction args.mode c.waits-waits.result c.target_of-target.result
+    look.demand (sheet c.accept.new.table c.accept.new.trail) (sheet c.take_on.new.table c.take_on.new.trail)
     c.waits-waits.ensures target (ap (λ (l : AxisLook). l.demand) shown) c.accept.ensures.sheet
-    (simp to_z-of_z at c.take-on.ensures.sheet)
+    (simp to_z-of_z at c.take_on.ensures.sheet)
