@@ -1,10 +1,9 @@
 -- The turn of an axis ends: it rests in a state, or a command begins. Assumes nothing.
-use Rattle.std.proofs.Common.{◌≡◌, ℕ, zero, suc, ◌+◌, ◌<◌, ◌≤◌, Bool, true, false, cond, eqb, ◌⊎◌, List, [], ◌∷◌, length, get_or, set, ℤ, ◌-ℤ◌, Some, None, Option, sym, refl, ap, ◌∙◌, subst, inl, inr, arith}
+use Rattle.std.proofs.Common.{◌≡◌, ℕ, ◌<◌, ◌≤◌, Bool, true, false, eqb, List, length, get_or, set, ℤ, ◌-ℤ◌, Some, None, Option, sym, refl, ap, ◌∙◌, subst, inl, inr, arith}
 use Rattle.std.proofs.lemmas.List.{get_or-set_same, get_or-set_other}
 use Rattle.std.proofs.lemmas.Bool.{cases_eq}
 use Rattle.segment.specs.Row.{Row}
 use Rattle.records.specs.declared.kinds.Record.{Record}
-use Rattle.records.specs.declared.kinds.Record.TheVariants.{Begin, State, Target}
 use Rattle.records.specs.declared.motion.AxisState.{AxisState}
 use Rattle.records.specs.declared.motion.AxisState.TheVariants.{Disabled, Standstill, Stopping, DiscreteMotion, ContinuousMotion, ErrorStop}
 use Rattle.records.specs.declared.motion.Command.{Command}
@@ -15,16 +14,16 @@ use Rattle.words.specs.Words.{lawful_outcome}
 use Rattle.moves.specs.declared.table.Axis.{Axis}
 use Rattle.moves.specs.declared.table.Block.{Block}
 use Rattle.moves.specs.declared.table.Status.TheVariants.{Waiting, Active}
-use Rattle.moves.specs.Axes.{stop_in, halted_in, under_command, without_commands}
+use Rattle.moves.specs.Axes.{stop_in, halted_in, under_command}
 use Rattle.moves.specs.Blocks.{is_move, state_under, stop_under, distance_to, with_status}
 use Rattle.moves.specs.Moves.{entered_if, entered, begun, started, quelled, emptied}
 use Rattle.moves.specs.Sheet.{Sheet, idle_block}
 use Rattle.law.specs.Laws.Accounts.{is_done}
 use Rattle.law.specs.Laws.States.{Arrow}
 use Rattle.law.specs.Readings.{LastTarget}
-use Rattle.law.proofs.Ends.{Adds, adds_then, adds_begin, adds_state, Emptied, emptied_open, empty_records}
-use Rattle.law.proofs.Lines.{nth, axle, At, Line, Lines, Leaves, at_same, leaves_all, leaves_then, leaves_status, line_same, is_stop, apart_by}
-use Rattle.law.proofs.Parts.{Rests, Fits, Aims, Aimed, Open, Part, But, Targets, close_on}
+use Rattle.law.proofs.Ends.{Adds, adds_then, adds_begin, adds_state, emptied_open, empty_records}
+use Rattle.law.proofs.Lines.{nth, axle, At, Line, Leaves, at_same, leaves_all, leaves_status, line_same, is_stop}
+use Rattle.law.proofs.Parts.{Rests, Fits, Aims, Open, Part, But, close_on}
 use Rattle.law.proofs.Told.{Told, told_entered, told_begun, begin_records, state_records, entry_records, Reachable}
 
 -- ---- an axis enters a state

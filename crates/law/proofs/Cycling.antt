@@ -1,39 +1,37 @@
 -- A whole cycle keeps the law, and what it ends done has arrived. Assumes nothing.
-use Rattle.std.proofs.Common.{◌≡◌, ℕ, zero, suc, ◌+◌, ◌<◌, ◌≤◌, Bool, true, false, cond, ◌&&◌, eqb, ltb, leb, ◌⊎◌, List, [], ◌∷◌, get_or, ℤ, Some, None, Option, sym, refl, ap, ◌∙◌, subst, inl, inr, arith}
-use Rattle.std.proofs.lemmas.Bool.{cases_eq, cases_lt, lt-ltb, le-leb, and_from}
+use Rattle.std.proofs.Common.{◌≡◌, ℕ, zero, suc, ◌<◌, ◌≤◌, Bool, true, false, cond, eqb, ltb, leb, List, ◌∷◌, get_or, ℤ, Some, None, Option, sym, refl, ap, ◌∙◌, subst, inl, inr, arith}
+use Rattle.std.proofs.lemmas.Bool.{cases_lt, lt-ltb, le-leb, and_from}
 use Rattle.segment.specs.declared.axis.Power.{Power}
 use Rattle.segment.specs.declared.axis.Power.TheVariants.{Off, Coming, On}
 use Rattle.segment.specs.declared.refusal.Reason.{Reason}
-use Rattle.segment.specs.declared.refusal.Reason.TheVariants.{NoSuchAxis, Faulted, PowerNotOn, OutOfRange, TripCode, Setting}
-use Rattle.segment.specs.Calls.{in_range, unless_on, ready_reason, follow_reason}
-use Rattle.segment.specs.Cycle.{Cycled}
+use Rattle.segment.specs.declared.refusal.Reason.TheVariants.{NoSuchAxis, Faulted, PowerNotOn, OutOfRange}
+use Rattle.segment.specs.Calls.{in_range, unless_on, follow_reason}
 use Rattle.segment.specs.Row.{Row, Sound, SoundRow}
 use Rattle.records.specs.declared.kinds.Record.{Record}
 use Rattle.records.specs.declared.kinds.Record.TheVariants.{Cycle}
 use Rattle.records.specs.declared.motion.Command.{Command}
 use Rattle.records.specs.declared.outcome.Cause.{Cause}
-use Rattle.records.specs.declared.outcome.Cause.TheVariants.{Segment}
 use Rattle.words.specs.Words.{lawful_cause, refuses_follow}
 use Rattle.moves.specs.declared.table.Axis.{Axis}
 use Rattle.moves.specs.declared.table.Block.{Block}
 use Rattle.moves.specs.declared.table.Status.TheVariants.{Active}
 use Rattle.moves.specs.Blocks.{is_move}
 use Rattle.moves.specs.Moves.{ticked, next_cycle}
-use Rattle.motion.specs.Ordering.{next_position, ordered_upto, refusal_under, refusal_of, Noted, RefusedUpto}
+use Rattle.motion.specs.Ordering.{next_position, ordered_upto, refusal_under, refusal_of, Noted}
 use Rattle.motion.specs.Settling.{settled, settled_upto}
-use Rattle.motion.specs.World.{World, on_sheet, axis_of}
+use Rattle.motion.specs.World.{World, axis_of}
 use Rattle.sequencer.specs.Calls.{counted, ordered_all, CycleLeft}
-use Rattle.law.specs.Laws.Accounts.{Rounds, stage_by, stage_of}
+use Rattle.law.specs.Laws.Accounts.{Rounds, stage_by}
 use Rattle.law.specs.Laws.Accounts.Stage.{runs}
 use Rattle.law.specs.Laws.Arrivals.{done_ends, StandsAt, Arrives}
 use Rattle.law.specs.Readings.{LastAccept, LastTarget}
-use Rattle.law.proofs.Following.{OrderedTo, ordered_to, followed_part, Unhurt}
+use Rattle.law.proofs.Following.{ordered_to, followed_part, Unhurt}
 use Rattle.law.proofs.Handing.{Seen, seen_same, seen_then}
-use Rattle.law.proofs.Lasts.{last_of_runs, accept_before}
-use Rattle.law.proofs.Lines.{nth, axle, At, Line}
-use Rattle.law.proofs.Parts.{Aims, Part, But}
-use Rattle.law.proofs.Told.{Told, told_ticked}
-use Rattle.law.proofs.Turning.{Fair, Landed, TurnOver, settled_over}
+use Rattle.law.proofs.Lasts.{last_of_runs}
+use Rattle.law.proofs.Lines.{nth, axle, At}
+use Rattle.law.proofs.Parts.{Part}
+use Rattle.law.proofs.Told.{told_ticked}
+use Rattle.law.proofs.Turning.{Fair, Landed, settled_over}
 
 -- ---- why a follow is refused
 

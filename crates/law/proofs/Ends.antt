@@ -1,30 +1,30 @@
 -- The commands of an axis end. Assumes nothing.
-use Rattle.std.proofs.Common.{◌≡◌, ℕ, zero, suc, ◌+◌, ◌<◌, ◌≤◌, Bool, true, false, cond, eqb, ◌⊎◌, List, [], ◌∷◌, length, get_or, set, ℤ, Some, None, Option, sym, refl, ap, ◌∙◌, subst, inl, inr, zero-add, arith}
+use Rattle.std.proofs.Common.{◌≡◌, ℕ, zero, suc, ◌<◌, Bool, true, false, ◌⊎◌, List, ◌∷◌, get_or, set, ℤ, Some, None, Option, sym, refl, ap, ◌∙◌, subst, inl, inr, zero-add, arith}
 use Rattle.std.proofs.lemmas.List.{get_or-set_same, get_or-set_other}
-use Rattle.std.proofs.lemmas.Bool.{cases_eq, ne_eqb}
+use Rattle.std.proofs.lemmas.Bool.{ne_eqb}
 use Rattle.segment.specs.Row.{Row}
 use Rattle.records.specs.declared.kinds.Record.{Record}
-use Rattle.records.specs.declared.kinds.Record.TheVariants.{Accept, Begin, End, State, Place, Cycle, Target}
+use Rattle.records.specs.declared.kinds.Record.TheVariants.{Begin, End}
 use Rattle.records.specs.declared.motion.AxisState.{AxisState}
 use Rattle.records.specs.declared.motion.Command.{Command}
 use Rattle.records.specs.declared.outcome.Outcome.{Outcome}
 use Rattle.records.specs.declared.outcome.Outcome.TheVariants as outcome
-use Rattle.words.specs.Words.{lawful_outcome, in_reach}
+use Rattle.words.specs.Words.{lawful_outcome}
 use Rattle.moves.specs.declared.table.Axis.{Axis}
 use Rattle.moves.specs.declared.table.Block.{Block}
 use Rattle.moves.specs.declared.table.Status.{Status}
 use Rattle.moves.specs.declared.table.Status.TheVariants.{Waiting, Active}
-use Rattle.moves.specs.Axes.{without_active, without_commands}
+use Rattle.moves.specs.Axes.{without_commands}
 use Rattle.moves.specs.Blocks.{with_status, status_of}
-use Rattle.moves.specs.Moves.{ended, ended_upto, ended_active, kept, emptied, retired, finished}
-use Rattle.moves.specs.Sheet.{Sheet, idle_block, axis_at, told}
+use Rattle.moves.specs.Moves.{ended, ended_upto, ended_active, emptied}
+use Rattle.moves.specs.Sheet.{Sheet, idle_block}
 use Rattle.law.specs.Laws.Accounts.{is_done}
-use Rattle.law.specs.Laws.Arrivals.{done_end, done_ends}
+use Rattle.law.specs.Laws.Arrivals.{done_ends}
 use Rattle.law.specs.Readings.{LastAccept, LastTarget}
-use Rattle.law.proofs.Lasts.{accept_before, done_end_other, done_end_not}
-use Rattle.law.proofs.Lines.{nth, axle, At, Line, Lines, Leaves, at_same, leaves_all, leaves_then, leaves_status, apart_by, line_none}
+use Rattle.law.proofs.Lasts.{accept_before, done_end_not}
+use Rattle.law.proofs.Lines.{nth, axle, At, Leaves, at_same, leaves_all, leaves_then, leaves_status, apart_by, line_none}
 use Rattle.law.proofs.Parts.{Open, Targets, open_on}
-use Rattle.law.proofs.Told.{Told, told_ended, told_placed, told_kept, begin_records, state_records}
+use Rattle.law.proofs.Told.{Told, told_ended, told_kept, begin_records, state_records}
 
 -- ---- what a move of the axis a adds to the records
 

@@ -1,10 +1,10 @@
 -- Execute and release keep the law. Assumes nothing.
-use Rattle.std.proofs.Common.{◌≡◌, ℕ, zero, suc, ◌+◌, ◌<◌, ◌≤◌, Bool, true, false, cond, not, ◌&&◌, eqb, ◌⊎◌, List, [], ◌∷◌, length, get_or, set, ℤ, ◌+ℤ◌, Some, None, Option, sym, refl, ap, ◌∙◌, subst, inl, inr, zero-add, arith, length-set}
+use Rattle.std.proofs.Common.{◌≡◌, ℕ, ◌+◌, ◌<◌, ◌≤◌, Bool, true, false, cond, not, List, [], ◌∷◌, length, get_or, set, ℤ, ◌+ℤ◌, Some, None, Option, sym, refl, ap, ◌∙◌, subst, inl, inr, zero-add, arith, length-set}
 use Rattle.std.proofs.lemmas.List.{get_or-set_same, get_or-set_other, get_or_past}
 use Rattle.std.proofs.lemmas.Bool.{cases_eq, cases_lt, eqb-true, true≢false, not-false}
 use Rattle.segment.specs.declared.axis.AxisLook.{AxisLook}
 use Rattle.segment.specs.Calls.{in_range}
-use Rattle.segment.specs.Row.{Row, Sound}
+use Rattle.segment.specs.Row.{Sound}
 use Rattle.records.specs.declared.kinds.Record.{Record}
 use Rattle.records.specs.declared.kinds.Record.TheVariants.{Accept}
 use Rattle.records.specs.declared.motion.AxisState.{AxisState}
@@ -25,20 +25,20 @@ use Rattle.moves.specs.declared.table.Block.{Block}
 use Rattle.moves.specs.declared.table.Status.TheVariants.{Waiting, Active}
 use Rattle.moves.specs.Axes.{with_state, joined, is_block, takes_commands, without_commands}
 use Rattle.moves.specs.Blocks.{block_of, command_of, block_aim, is_busy, state_under, aimed_at}
-use Rattle.moves.specs.Moves.{accepted, emptied, entered, kept, started}
-use Rattle.moves.specs.Sheet.{Sheet, idle_block, disabled_axis, block_at}
+use Rattle.moves.specs.Moves.{accepted, emptied, kept, started}
+use Rattle.moves.specs.Sheet.{Sheet, idle_block, disabled_axis}
 use Rattle.motion.specs.World.{World, on_sheet, axis_of}
 use Rattle.sequencer.specs.Calls.{target_of, taken_on, executed, idled, freed, released}
-use Rattle.sequencer.specs.Refusals.{waits, is_outside, is_lawful, is_aborting, is_rate}
+use Rattle.sequencer.specs.Refusals.{waits, is_outside, is_lawful}
 use Rattle.law.specs.Laws.Arrivals.{done_ends}
 use Rattle.law.specs.Laws.States.{Arrow}
 use Rattle.law.proofs.Keeping.{Keeps, accepted_part, idled_part}
 use Rattle.law.proofs.Closing.{Leads, Behind, HasTarget, enter_rest, stop_remembered, started_part, started_adds, start_records}
-use Rattle.law.proofs.Ends.{Adds, adds_state, Emptied, emptied_open, empty_records}
+use Rattle.law.proofs.Ends.{adds_state, emptied_open}
 use Rattle.law.proofs.Handing.{TargetOf, target_free, target_at}
 use Rattle.law.proofs.Lines
 use Rattle.law.proofs.Lines.{nth, axle, Line, leaves_all, at_same, not_busy, is_stop}
-use Rattle.law.proofs.Parts.{Fits, Aims, Part, But, opened, close_on}
+use Rattle.law.proofs.Parts.{Part, opened, close_on}
 use Rattle.law.proofs.Told.{told_kept, entry_records}
 
 -- ---- states that take commands

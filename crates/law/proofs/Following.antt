@@ -1,28 +1,26 @@
 -- The axes follow, and the segment cycles: a move that was not refused leads to its target still. Assumes nothing.
-use Rattle.std.proofs.Common.{◌≡◌, ℕ, zero, suc, ◌+◌, ◌<◌, ◌≤◌, Bool, true, false, cond, eqb, ◌⊎◌, List, [], length, get_or, set, ℤ, ◌+ℤ◌, ◌-ℤ◌, Some, None, Option, sym, refl, ap, ◌∙◌, subst, inl, inr, arith}
+use Rattle.std.proofs.Common.{◌≡◌, ℕ, zero, suc, ◌<◌, ◌≤◌, true, eqb, List, [], get_or, set, ℤ, ◌+ℤ◌, ◌-ℤ◌, Some, None, Option, sym, refl, ap, ◌∙◌, subst, inl, inr, arith}
 use Rattle.std.proofs.lemmas.List.{get_or-set_same, get_or-set_other}
 use Rattle.std.proofs.lemmas.Int.{ints}
-use Rattle.std.proofs.lemmas.Bool.{cases_eq, cases_lt, cond-true, cond-false, eq-eqb, ne_eqb}
+use Rattle.std.proofs.lemmas.Bool.{cases_eq, cond-true, cond-false, eq-eqb, ne_eqb}
 use Rattle.segment.specs.declared.axis.AxisLook.{AxisLook}
-use Rattle.segment.specs.declared.axis.Power.{Power}
-use Rattle.segment.specs.declared.axis.Power.TheVariants.{Off, Coming, On}
+use Rattle.segment.specs.declared.axis.Power.TheVariants.{On}
 use Rattle.segment.specs.declared.refusal.Reason.{Reason}
 use Rattle.segment.specs.Calls.{follow_reason, followed}
-use Rattle.segment.specs.Cycle.{AxisCycled, Calm, Arose, Cycled, DemandCycled}
-use Rattle.segment.specs.Row.{Row, changed}
-use Rattle.segment.proofs.Ready.{Ready, ready}
+use Rattle.segment.specs.Cycle.{AxisCycled, Cycled, DemandCycled}
+use Rattle.segment.specs.Row.{Row}
+use Rattle.segment.proofs.Ready.{ready}
 use Rattle.records.specs.declared.kinds.Record.{Record}
 use Rattle.records.specs.declared.outcome.Cause.{Cause}
 use Rattle.moves.specs.declared.table.Axis.{Axis}
 use Rattle.moves.specs.declared.table.Block.{Block}
 use Rattle.moves.specs.Blocks.{is_move}
-use Rattle.moves.specs.Moves.{kept}
-use Rattle.moves.specs.Sheet.{Sheet, disabled_axis}
+use Rattle.moves.specs.Sheet.{disabled_axis}
 use Rattle.turns.specs.Steps.{step_of, stepped, remaining}
 use Rattle.motion.specs.Ordering.{next_position, followed_unless, ordered_under, ordered, ordered_upto, refusal_under, refusal_of, Noted, RefusedUpto}
 use Rattle.motion.specs.World.{World, axis_of}
-use Rattle.law.proofs.Lines.{nth, axle, Line, Lines, leaves_all, line_same, lines_with, each_axle}
-use Rattle.law.proofs.Parts.{Rests, Fits, Aims, Aimed, Part}
+use Rattle.law.proofs.Lines.{nth, axle, Lines, leaves_all, line_same, lines_with, each_axle}
+use Rattle.law.proofs.Parts.{Rests, Fits, Aims, Part}
 use Rattle.law.proofs.Told.{Told, told_kept}
 
 -- an axis that followed without refusal: ready to, and on the way to its target

@@ -1,9 +1,9 @@
 -- What comes after a command that ended: the next one, standstill, or errorstop. Assumes nothing.
-use Rattle.std.proofs.Common.{◌≡◌, ℕ, zero, suc, ◌+◌, ◌-◌, ◌<◌, ◌≤◌, Bool, true, false, cond, ◌&&◌, T, eqb, ◌⊎◌, List, [], ◌∷◌, length, get_or, set, ℤ, pos, negsuc, ◌+ℤ◌, ◌≤ℤ◌, Some, None, Option, sym, refl, ap, ◌∙◌, subst, inl, inr, arith}
+use Rattle.std.proofs.Common.{◌≡◌, ℕ, zero, suc, ◌+◌, ◌-◌, ◌<◌, Bool, true, false, cond, T, eqb, List, get_or, ℤ, pos, negsuc, ◌+ℤ◌, ◌≤ℤ◌, Some, None, Option, sym, refl, ap, ◌∙◌, subst, arith}
 use lib.Signed.{le_z}
 use Rattle.std.proofs.lemmas.List.{get_or-set_other}
 use Rattle.std.proofs.lemmas.Int.{ints}
-use Rattle.std.proofs.lemmas.Bool.{eqb-true, eqb-false, cond-true, cond-false, eq-eqb, ne_eqb, and_parts, and_from, true≢false, cases_Bool}
+use Rattle.std.proofs.lemmas.Bool.{eqb-true, eqb-false, cond-false, ne_eqb, and_parts, and_from, true≢false}
 use Rattle.segment.specs.declared.axis.AxisLook.{AxisLook}
 use Rattle.segment.specs.Calls.{in_range, unpowered}
 use Rattle.segment.specs.Row.{Row, Position, Sound, changed}
@@ -24,13 +24,11 @@ use Rattle.moves.specs.declared.table.Block.{Block}
 use Rattle.moves.specs.declared.table.Status.TheVariants.{Waiting, Active}
 use Rattle.moves.specs.Axes.{with_state, rest_state, shifted, is_errorstop}
 use Rattle.moves.specs.Blocks.{is_move, state_under, aimed_at, aim_of, block_aim}
-use Rattle.moves.specs.Moves.{entered, started, quelled}
-use Rattle.moves.specs.Sheet.{Sheet}
 use Rattle.turns.specs.declared.turn.Next.{Next}
 use Rattle.turns.specs.declared.turn.Next.TheVariants.{Nothing, Begin, OutOfRange}
 use Rattle.turns.specs.Turns.{next_by, next_of}
 use Rattle.motion.specs.Settling.{handed_by, handed}
-use Rattle.motion.specs.World.{World, on_sheet, axis_of, failed}
+use Rattle.motion.specs.World.{World, axis_of, failed}
 use Rattle.law.specs.Laws.States.{Arrow}
 use Rattle.law.proofs.Closing.{Leads, Behind, HasTarget, enter_rest, entered_axes, entered_blocks, stop_remembered, quelled_part, quelled_adds, quelled_others, quelled_leaves, quell_records, started_part, started_adds, started_others, started_left, start_records}
 use Rattle.law.proofs.Ends.{Adds, adds_state}

@@ -1,7 +1,7 @@
 -- The law of every run, by induction over the run. Assumes nothing.
-use Rattle.std.proofs.Common.{◌≡◌, ℕ, zero, suc, ◌+◌, ◌<◌, ◌≤◌, Bool, true, false, cond, not, ◌&&◌, ltb, leb, ◌⊎◌, List, [], ◌∷◌, ◌++◌, length, get_or, replicate, Some, None, Ok, Err, Option, sym, refl, ap, ◌∙◌, subst, inl, inr, zero-add, arith}
+use Rattle.std.proofs.Common.{◌≡◌, ℕ, ◌+◌, ◌<◌, Bool, true, false, not, ◌&&◌, ltb, leb, List, [], ◌∷◌, length, replicate, Some, None, Ok, Err, Option, sym, refl, ap, ◌∙◌, subst, inl, inr, zero-add, arith}
 use Rattle.std.proofs.lemmas.List.{get_or-replicate, get_or_past}
-use Rattle.std.proofs.lemmas.Bool.{cases_lt, ltb-true, ltb-false, leb-true, leb-false, lt-ltb, and_from, and_parts, not-false, true≢false}
+use Rattle.std.proofs.lemmas.Bool.{cases_lt, ltb-false, leb-true, leb-false, lt-ltb, and_from, and_parts, not-false, true≢false}
 use Rattle.segment.specs.Row.{SoundRow}
 use Rattle.records.specs.declared.kinds.Record.{Record}
 use Rattle.records.specs.declared.motion.AxisState.{AxisState}
@@ -9,29 +9,29 @@ use Rattle.records.specs.declared.motion.AxisState.TheVariants.{Disabled, Stands
 use Rattle.records.specs.declared.motion.BufferMode.{BufferMode}
 use Rattle.records.specs.declared.motion.Command.{Command}
 use Rattle.records.specs.declared.motion.Command.TheVariants as command
-use Rattle.totals.specs.Counts.{ends, done_one, aborted_one, error_one}
+use Rattle.totals.specs.Counts.{done_one, aborted_one, error_one}
 use Rattle.moves.specs.declared.instruction.Instruction.{Instruction}
 use Rattle.moves.specs.declared.table.Axis.{Axis}
 use Rattle.moves.specs.declared.table.Block.{Block}
 use Rattle.moves.specs.declared.table.Status.{Status}
 use Rattle.moves.specs.declared.table.Status.TheVariants.{Idle, Waiting, Active, Done, Aborted, Error}
 use Rattle.moves.specs.declared.table.Table.{Table}
-use Rattle.moves.specs.Axes.{is_disabled, is_errorstop, takes_commands}
+use Rattle.moves.specs.Axes.{is_errorstop, takes_commands}
 use Rattle.moves.specs.Blocks.{is_idle, is_busy, state_under}
-use Rattle.moves.specs.Sheet.{Sheet, idle_block, disabled_axis, new_table, block_at}
+use Rattle.moves.specs.Sheet.{idle_block, disabled_axis, new_table, block_at}
 use Rattle.motion.specs.World.{World, axis_of}
 use Rattle.sequencer.specs.declared.refusal.Refusal.{Refusal}
-use Rattle.sequencer.specs.declared.refusal.Refusal.TheVariants.{NoSuchBlock, BlockNotIdle, BlockBusy, NoSuchAxis, BadValue, WrongState, QueueFull, OutOfRange, TrailFull}
-use Rattle.sequencer.specs.Calls.{Answer, executed}
-use Rattle.sequencer.specs.Refusals.{refuse_if, waits, is_lawful, is_outside, execute_refusal, release_refusal, power_refusal, reset_refusal, trip_refusal, free_in}
+use Rattle.sequencer.specs.declared.refusal.Refusal.TheVariants.{NoSuchBlock, BlockNotIdle, BlockBusy, NoSuchAxis, BadValue, WrongState, QueueFull, OutOfRange}
+use Rattle.sequencer.specs.Calls.{Answer}
+use Rattle.sequencer.specs.Refusals.{refuse_if, waits, is_lawful, is_outside, execute_refusal}
 use Rattle.law.specs.declared.order.Order.{Order}
 use Rattle.law.specs.declared.order.Order.TheVariants.{PowerOn, PowerOff, Execute, Release, Reset, Trip, Cycle}
 use Rattle.law.specs.Laws.Accounts.{Rounds, stage_of}
 use Rattle.law.specs.Laws.Arrivals.{done_ends, Arrives}
-use Rattle.law.specs.Laws.Law.{Law, Lawful, Always, Throughout, Played, orders_of}
+use Rattle.law.specs.Laws.Law.{Law, Always, Throughout}
 use Rattle.law.specs.Laws.States.{Chain, Actives, ActiveOn, AtMostOne, ExactlyOne, NoneActive}
 use Rattle.law.specs.Readings.{records_of}
-use Rattle.law.specs.Runs.{Step, Entry, entry, History, Fresh, Run, execute_one, executes}
+use Rattle.law.specs.Runs.{Step, entry, History, Fresh, Run, execute_one, executes}
 use Rattle.law.specs.Runs.Run.{made, called}
 use Rattle.law.proofs.Keeping.{Keeps, keeps_power_on, keeps_power_off, keeps_reset, keeps_trip}
 use Rattle.law.proofs.Chains.{chained_new}
@@ -40,7 +40,7 @@ use Rattle.law.proofs.Executing.{Passed, keeps_execute, keeps_release}
 use Rattle.law.proofs.Good.{good_new}
 use Rattle.law.proofs.Lines.{nth, axle, At, Line, Lines, line_none}
 use Rattle.law.proofs.Parts.{Rests, Fits, Aims, Part}
-use Rattle.law.proofs.Readings.{Reads, reads_none, ends_in, ends_read}
+use Rattle.law.proofs.Readings.{reads_none, ends_read}
 
 -- ---- the invariant: table and row are tied to the words, and these to the history
 

@@ -1,47 +1,38 @@
 -- Each call but the cycle keeps the law. Assumes nothing.
-use Rattle.std.proofs.Common.{◌≡◌, ℕ, zero, suc, ◌+◌, ◌<◌, ◌≤◌, Bool, true, false, cond, not, ◌&&◌, eqb, ltb, leb, ◌⊎◌, List, [], ◌∷◌, length, get_or, set, ℤ, ◌+ℤ◌, ◌-ℤ◌, Some, None, Option, sym, refl, ap, ◌∙◌, subst, inl, inr, zero-add, arith, length-set}
-use Rattle.std.proofs.lemmas.List.{get_or-set_same, get_or-set_other, get_or_past}
-use Rattle.std.proofs.lemmas.Bool.{cases_eq, cases_lt, cond-true, cond-false, eq-eqb, ne_eqb, eqb-true, eqb-false, le-leb, leb-true, and_from, and_parts, not-false, true≢false}
+use Rattle.std.proofs.Common.{◌≡◌, ℕ, ◌+◌, ◌<◌, ◌≤◌, Bool, true, false, cond, eqb, leb, List, ◌∷◌, set, ℤ, ◌-ℤ◌, Some, None, Option, sym, refl, ap, ◌∙◌, subst, arith}
+use Rattle.std.proofs.lemmas.List.{get_or-set_other}
+use Rattle.std.proofs.lemmas.Bool.{cond-true, eq-eqb, eqb-false, le-leb, and_from, true≢false}
 use Rattle.segment.specs.declared.axis.AxisLook.{AxisLook}
-use Rattle.segment.specs.Calls.{in_range, powered, unpowered, tripped, cleared}
-use Rattle.segment.specs.Row.{Row, Sound, SoundRow, changed}
+use Rattle.segment.specs.Calls.{powered, unpowered, tripped, cleared}
+use Rattle.segment.specs.Row.{Row, changed}
 use Rattle.records.specs.declared.kinds.Record.{Record}
 use Rattle.records.specs.declared.kinds.Record.TheVariants.{Accept}
 use Rattle.records.specs.declared.motion.AxisState.{AxisState}
 use Rattle.records.specs.declared.motion.AxisState.TheVariants.{Disabled, Standstill, Stopping, DiscreteMotion, ContinuousMotion, ErrorStop}
 use Rattle.records.specs.declared.motion.BufferMode.{BufferMode}
-use Rattle.records.specs.declared.motion.BufferMode.TheVariants.{Aborting, Buffered}
-use Rattle.records.specs.declared.motion.Command.{Command}
-use Rattle.records.specs.declared.motion.Command.TheVariants as command
 use Rattle.records.specs.declared.outcome.Cause.TheVariants.{Drive}
 use Rattle.records.specs.declared.outcome.Outcome.TheVariants.{Aborted}
 use Rattle.words.specs.Words.{may_be, lawful_cause}
-use Rattle.moves.specs.declared.aim.Aim.{Aim}
-use Rattle.moves.specs.declared.aim.Aim.TheVariants.{Free, Outside}
-use Rattle.moves.specs.declared.aim.Aim.TheVariants as aim
 use Rattle.moves.specs.declared.instruction.Instruction.{Instruction}
 use Rattle.moves.specs.declared.instruction.Instruction.TheVariants as instruction
 use Rattle.moves.specs.declared.table.Axis.{Axis}
 use Rattle.moves.specs.declared.table.Block.{Block}
-use Rattle.moves.specs.declared.table.Status.{Status}
-use Rattle.moves.specs.declared.table.Status.TheVariants.{Idle, Waiting, Active}
-use Rattle.moves.specs.Axes.{with_request, with_state, joined, is_block, is_disabled, is_errorstop, takes_commands, without_commands}
-use Rattle.moves.specs.Blocks.{block_of, command_of, block_aim, is_busy, is_move, state_under, aimed_at}
-use Rattle.moves.specs.Moves.{accepted, emptied, entered, kept, quelled, started}
-use Rattle.moves.specs.Sheet.{Sheet, idle_block, disabled_axis, block_at, with_block, on_table}
-use Rattle.motion.specs.World.{World, on_sheet, axis_of, failed}
-use Rattle.sequencer.specs.Calls.{powered_on, powered_off, target_of, taken_on, executed, idled, freed, released, reset_world, failed_unless, tripped_world}
-use Rattle.sequencer.specs.Refusals.{waits, is_outside, is_lawful, is_aborting, is_rate}
+use Rattle.moves.specs.declared.table.Status.TheVariants.{Active}
+use Rattle.moves.specs.Axes.{with_request, with_state, is_errorstop}
+use Rattle.moves.specs.Blocks.{block_of, command_of, is_busy, is_move, state_under}
+use Rattle.moves.specs.Moves.{accepted, kept}
+use Rattle.moves.specs.Sheet.{Sheet, idle_block}
+use Rattle.motion.specs.World.{World, axis_of, failed}
+use Rattle.sequencer.specs.Calls.{powered_on, powered_off, idled, reset_world, failed_unless, tripped_world}
 use Rattle.law.specs.Laws.Arrivals.{done_ends}
 use Rattle.law.specs.Laws.States.{Arrow}
 use Rattle.law.specs.Readings.{LastTarget}
-use Rattle.law.proofs.Closing.{Leads, Behind, HasTarget, enter_rest, entered_axes, stop_remembered, quelled_part, quelled_adds, quell_records, started_part, started_adds, start_records}
-use Rattle.law.proofs.Ends.{Adds, adds_state, Emptied, emptied_open, empty_records}
-use Rattle.law.proofs.Good.{Good, good_idled}
-use Rattle.law.proofs.Handing.{TargetOf, target_free, target_at, failed_went, seen_unpowered}
-use Rattle.law.proofs.Lines.{nth, axle, Line, Lines, Leaves, leaves_all, at_same, line_same, line_replaced, not_busy, is_stop}
-use Rattle.law.proofs.Lines
-use Rattle.law.proofs.Parts.{Fits, Aims, Aimed, Open, Part, But, opened, open_on, close_on}
+use Rattle.law.proofs.Closing.{Leads, enter_rest, stop_remembered, quelled_part, quelled_adds, quell_records}
+use Rattle.law.proofs.Ends.{adds_state}
+use Rattle.law.proofs.Good.{good_idled}
+use Rattle.law.proofs.Handing.{failed_went, seen_unpowered}
+use Rattle.law.proofs.Lines.{nth, axle, Lines, leaves_all, line_same, line_replaced, not_busy}
+use Rattle.law.proofs.Parts.{Fits, Aims, Open, Part, But, opened, open_on, close_on}
 use Rattle.law.proofs.Told.{Told, told_accepted, told_kept, entry_records}
 use Rattle.law.proofs.Turning.{runs_no_errorstop}
 

@@ -1,5 +1,5 @@
 -- The whole invariant of a sheet and a row, and the same while the axis a is on its turn. Assumes nothing.
-use Rattle.std.proofs.Common.{◌≡◌, ℕ, ◌<◌, Bool, true, false, List, [], length, get_or, set, ℤ, ◌-ℤ◌, Some, None, Option, sym, refl, ap, ◌∙◌, subst}
+use Rattle.std.proofs.Common.{◌≡◌, ℕ, ◌<◌, true, List, length, set, ℤ, ◌-ℤ◌, Some, None, sym, refl, ap, ◌∙◌, subst}
 use Rattle.segment.specs.declared.axis.AxisLook.{AxisLook}
 use Rattle.segment.specs.Row.{Row}
 use Rattle.records.specs.declared.kinds.Record.{Record}
@@ -11,7 +11,7 @@ use Rattle.moves.specs.declared.table.Status.TheVariants.{Waiting}
 use Rattle.moves.specs.Blocks.{is_move, state_under}
 use Rattle.moves.specs.Sheet.{Sheet}
 use Rattle.law.specs.Readings.{LastTarget}
-use Rattle.law.proofs.Lines.{nth, axle, At, Line, Lines, Leaves, each_axle, lines_with}
+use Rattle.law.proofs.Lines.{nth, axle, Line, Lines, Leaves, each_axle, lines_with}
 use Rattle.law.proofs.Told.{Told}
 
 -- a state without an active command

@@ -10,7 +10,7 @@ use Rattle.sequencer.specs.declared.sequencer.Sequencer.{Sequencer}
 use Rattle.sequencer.specs.Calls.{Answer}
 use Rattle.sequencer.specs.Whole.{segment_of, table_of, world_of}
 use Rattle.law.specs.declared.order.Order.{Order}
-use Rattle.law.specs.Laws.Law.{Played, orders_of}
+use Rattle.law.specs.Laws.Law.{Played}
 use Rattle.law.specs.Runs.{Step, entry, Fresh, Run, new_world}
 use Rattle.law.specs.Runs.Run.{made, called}
 use Rattle.law.proofs.Invariant.{throughout}

@@ -1,27 +1,22 @@
 -- The active command of an axis ends, and its turn goes on. Assumes nothing.
-use Rattle.std.proofs.Common.{◌≡◌, ℕ, ◌+◌, ◌<◌, Bool, true, false, cond, ◌⊎◌, List, [], ◌∷◌, length, get_or, set, ℤ, Some, None, Option, sym, refl, ap, ◌∙◌, subst, inl, inr, arith}
+use Rattle.std.proofs.Common.{◌≡◌, ℕ, ◌<◌, true, List, [], ◌∷◌, get_or, set, ℤ, Some, sym, refl, ap, ◌∙◌, inl, arith}
 use Rattle.std.proofs.lemmas.List.{get_or-set_same, get_or-set_other}
 use Rattle.segment.specs.Row.{Row}
 use Rattle.records.specs.declared.kinds.Record.{Record}
 use Rattle.records.specs.declared.kinds.Record.TheVariants.{End, Place}
-use Rattle.records.specs.declared.motion.Command.{Command}
 use Rattle.records.specs.declared.outcome.Outcome.{Outcome}
 use Rattle.records.specs.declared.outcome.Outcome.TheVariants.{Done}
 use Rattle.words.specs.Words.{lawful_outcome, in_reach}
-use Rattle.moves.specs.declared.table.Axis.{Axis}
 use Rattle.moves.specs.declared.table.Block.{Block}
 use Rattle.moves.specs.declared.table.Status.TheVariants as status
 use Rattle.moves.specs.declared.table.Status.TheVariants.{Waiting, Active}
 use Rattle.moves.specs.Axes.{without_active}
-use Rattle.moves.specs.Moves.{ended, kept, retired, finished}
-use Rattle.moves.specs.Sheet.{Sheet, idle_block, disabled_axis, told}
-use Rattle.law.specs.Laws.Accounts.{is_done}
-use Rattle.law.specs.Laws.Arrivals.{done_ends}
-use Rattle.law.specs.Readings.{LastAccept, LastTarget}
-use Rattle.law.proofs.Ends.{Adds, adds_end, ended_active_ones, ended_other, ended_axes, ended_leaves}
-use Rattle.law.proofs.Lasts.{accept_before}
+use Rattle.moves.specs.Moves.{ended, retired, finished}
+use Rattle.moves.specs.Sheet.{Sheet, idle_block, disabled_axis}
+use Rattle.law.specs.Readings.{LastTarget}
+use Rattle.law.proofs.Ends.{ended_active_ones, ended_other, ended_axes, ended_leaves}
 use Rattle.law.proofs.Lines.{nth, axle, At, Line, Leaves, at_same, apart_by, is_stop}
-use Rattle.law.proofs.Parts.{Open, Targets, open_on}
+use Rattle.law.proofs.Parts.{Open, open_on}
 use Rattle.law.proofs.Told.{Told, told_ended, told_placed, told_kept}
 
 module _ {a : ℕ} {C : ℕ → Type 0} {n : ℕ} {before : List ℕ} {rs : List Record} {s : Sheet} {row : Row} (turn : Open a C n before rs s row) (ha : a < 8) (b : ℕ) (active : (axle s.table.axes a).active ≡ Some b) (o : Outcome) where

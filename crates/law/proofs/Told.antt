@@ -1,5 +1,5 @@
 -- Words, blocks and states stay tied while a move changes the table and writes its words. Assumes nothing.
-use Rattle.std.proofs.Common.{◌≡◌, ℕ, ◌+◌, ◌%◌, ◌^◌, ◌<◌, Bool, true, false, cond, not, ◌&&◌, eqb, ltb, ◌⊎◌, List, [], ◌∷◌, ◌++◌, get_or, set, ℤ, Some, None, Option, sym, refl, ap, ◌∙◌, subst, inl, inr, arith}
+use Rattle.std.proofs.Common.{◌≡◌, ℕ, ◌+◌, ◌^◌, ◌<◌, Bool, true, false, not, eqb, ltb, ◌⊎◌, List, ◌∷◌, ◌++◌, ℤ, Some, None, Option, sym, refl, arith}
 use Rattle.std.proofs.lemmas.Bool.{lt-ltb, and_from, not_from_false, true≢false}
 use Rattle.records.specs.declared.kinds.Record.{Record}
 use Rattle.records.specs.declared.kinds.Record.TheVariants.{Accept, Begin, End, State, Place, Cycle, Target}
@@ -8,17 +8,17 @@ use Rattle.records.specs.declared.motion.AxisState.TheVariants.{Disabled, Stands
 use Rattle.records.specs.declared.motion.BufferMode.{BufferMode}
 use Rattle.records.specs.declared.outcome.Outcome.{Outcome}
 use Rattle.records.specs.Numbers.{state_number}
-use Rattle.words.specs.Words.{Lawful, named, may_be, lawful_outcome, in_reach}
+use Rattle.words.specs.Words.{named, may_be, lawful_outcome, in_reach}
 use Rattle.moves.specs.declared.instruction.Instruction.{Instruction}
 use Rattle.moves.specs.declared.table.Axis.{Axis}
 use Rattle.moves.specs.declared.table.Status.TheVariants.{Waiting, Active}
 use Rattle.moves.specs.Blocks.{command_of, is_busy}
-use Rattle.moves.specs.Moves.{accepted, ended, kept, entered_if, entered, targeted, begun, next_cycle, ticked}
-use Rattle.moves.specs.Sheet.{Sheet, axis_at, told}
+use Rattle.moves.specs.Moves.{accepted, ended, kept, entered_if, entered, begun, next_cycle, ticked}
+use Rattle.moves.specs.Sheet.{Sheet, told}
 use Rattle.law.specs.Laws.Accounts.{is_done}
 use Rattle.law.specs.Laws.States.{Arrow}
 use Rattle.law.proofs.Chains.{Chained, chained_other, chained_kept, chained_entered}
-use Rattle.law.proofs.Good.{Good, good_silent, good_state, good_place, good_cycle, good_target, good_accepted, good_begun, good_ended}
+use Rattle.law.proofs.Good.{Good, good_state, good_place, good_cycle, good_target, good_accepted, good_begun, good_ended}
 use Rattle.law.proofs.Lines.{nth, axle}
 use Rattle.law.proofs.Readings.{Reads, reads_after}
 

@@ -1,13 +1,13 @@
 -- An axis takes its turn after the segment's cycle. Assumes nothing.
-use Rattle.std.proofs.Common.{◌≡◌, ℕ, ◌+◌, ◌<◌, ◌≤◌, Bool, true, false, cond, not, ◌&&◌, ◌||◌, T, eqb, ltb, leb, ◌⊎◌, List, [], ◌∷◌, get_or, set, ℤ, pos, ◌-ℤ◌, ◌≤ℤ◌, Some, None, Option, sym, refl, ap, ◌∙◌, subst, inl, inr, arith}
+use Rattle.std.proofs.Common.{◌≡◌, ℕ, ◌<◌, ◌≤◌, Bool, true, false, cond, not, ◌||◌, T, eqb, leb, List, ℤ, pos, ◌≤ℤ◌, Some, None, Option, sym, refl, ap, ◌∙◌, subst, inl, inr, arith}
 use lib.Signed.{le_z}
 use Rattle.std.proofs.lemmas.List.{get_or-set_other}
 use Rattle.std.proofs.lemmas.Int.{ints}
-use Rattle.std.proofs.lemmas.Bool.{cases_eq, eqb-true, eqb-false, ltb-true, le-leb, and_parts, and_from, not-true, not-false, true≢false, false≢true}
+use Rattle.std.proofs.lemmas.Bool.{cases_eq, eqb-true, eqb-false, ltb-true, le-leb, and_parts, and_from, not-true, true≢false}
 use Rattle.segment.specs.declared.axis.AxisLook.{AxisLook}
-use Rattle.segment.specs.Row.{Row, Sound}
+use Rattle.segment.specs.Row.{Sound}
 use Rattle.records.specs.declared.kinds.Record.{Record}
-use Rattle.records.specs.declared.kinds.Record.TheVariants.{End, Place}
+use Rattle.records.specs.declared.kinds.Record.TheVariants.{End}
 use Rattle.records.specs.declared.motion.AxisState.{AxisState}
 use Rattle.records.specs.declared.motion.AxisState.TheVariants.{Disabled, Standstill, Stopping, DiscreteMotion, ContinuousMotion, ErrorStop}
 use Rattle.records.specs.declared.motion.Command.{Command}
@@ -19,27 +19,24 @@ use Rattle.records.specs.Numbers.{state_number}
 use Rattle.words.specs.Words.{lawful_cause}
 use Rattle.moves.specs.declared.table.Axis.{Axis}
 use Rattle.moves.specs.declared.table.Block.{Block}
-use Rattle.moves.specs.declared.table.Status.{Status}
-use Rattle.moves.specs.declared.table.Status.TheVariants as status
-use Rattle.moves.specs.Axes.{with_state, without_active, is_disabled, is_errorstop}
+use Rattle.moves.specs.Axes.{with_state, is_disabled, is_errorstop}
 use Rattle.moves.specs.Blocks.{is_move, is_run, state_under}
 use Rattle.moves.specs.Moves.{entered, finished, retired}
 use Rattle.turns.specs.declared.turn.Turn.{Turn}
 use Rattle.turns.specs.declared.turn.Turn.TheVariants.{Rest, Fail, Enable, Finish, Yield}
-use Rattle.turns.specs.Turns.{same, is_on, active_block, reached, yields, enables, faults, turn_under, turn_after, turn_of}
-use Rattle.turns.specs.Steps.{goal_of}
+use Rattle.turns.specs.Turns.{same, active_block, reached, yields, enables, faults, turn_under, turn_after, turn_of}
 use Rattle.motion.specs.Settling.{handed, settled_by, settled}
 use Rattle.motion.specs.World.{World, on_sheet, axis_of, failed}
 use Rattle.law.specs.Laws.Arrivals.{done_end, done_ends, StandsAt}
 use Rattle.law.specs.Laws.States.{Arrow}
 use Rattle.law.specs.Readings.{LastAccept, LastTarget}
 use Rattle.law.proofs.Closing.{Leads, enter_rest, entered_axes, entered_blocks, stop_remembered}
-use Rattle.law.proofs.Ends.{Adds, adds_state, adds_none}
+use Rattle.law.proofs.Ends.{adds_state}
 use Rattle.law.proofs.Handing.{Seen, seen_same, Went, failed_went, handed_went, reach_of, LeftIn}
 use Rattle.law.proofs.Handing.LeftIn.{moving, stopping, running}
 use Rattle.law.proofs.Lasts.{accept_before, done_end_other}
-use Rattle.law.proofs.Lines.{nth, axle, At, Line, Leaves, leaves_all, leaves_then, is_stop}
-use Rattle.law.proofs.Parts.{Fits, Aims, Aimed, Open, Part, But, Targets, opened}
+use Rattle.law.proofs.Lines.{nth, axle, Leaves, leaves_all, leaves_then}
+use Rattle.law.proofs.Parts.{Aims, Part, But, Targets, opened}
 use Rattle.law.proofs.Retiring.{retired_open, retired_own, retired_others, retired_leaves, finished_open, finished_own, finished_others, finished_leaves, finished_done}
 use Rattle.law.proofs.Told.{entry_records}
 

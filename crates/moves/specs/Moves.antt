@@ -1,5 +1,5 @@
 -- The moves: each changes the table and writes its words at once. Assumes nothing.
-use Rattle.std.specs.Prelude.{ℕ, zero, suc, ◌+◌, ◌%◌, ◌^◌, Bool, true, false, cond, List, ℤ, Some, None, Option, ◌==◌, slice_index}
+use Rattle.std.specs.Prelude.{ℕ, zero, suc, ◌+◌, ◌%◌, ◌^◌, Bool, true, false, List, ℤ, Some, None, Option, ◌==◌, slice_index}
 use Rattle.records.specs.declared.kinds.Record.TheVariants.{Accept, Begin, End, State, Place, Cycle, Target}
 use Rattle.records.specs.declared.motion.AxisState.{AxisState}
 use Rattle.records.specs.declared.motion.BufferMode.{BufferMode}
@@ -9,7 +9,6 @@ use Rattle.records.specs.Numbers.{state_number}
 use Rattle.moves.specs.declared.instruction.Instruction.{Instruction}
 use Rattle.moves.specs.declared.table.Axis.{Axis}
 use Rattle.moves.specs.declared.table.Status.TheVariants.{Active}
-use Rattle.moves.specs.declared.table.Table.{Table}
 use Rattle.moves.specs.Axes.{without_active, without_commands, under_command, halted_in}
 use Rattle.moves.specs.Blocks.{block_of, command_of, with_status, status_of, distance_to}
 use Rattle.moves.specs.Sheet.{Sheet, block_at, axis_at, with_block, with_axis, on_table, told}

@@ -1,5 +1,5 @@
 -- A target that is found lies within the positions that there can be. Assumes nothing.
-use Rattle.std.specs.Prelude.{◌≡◌, true, ℤ, Some, None, Option}
+use Rattle.std.specs.Prelude.{◌≡◌, true, Some, None}
 use Rattle.words.specs.Words.{in_reach}
 use Rattle.moves.specs.declared.aim.Aim.{Aim}
 use Rattle.moves.specs.declared.aim.Aim.TheVariants.{Free, At, Outside}

@@ -1,6 +1,5 @@
 use Rattle.std.proofs.Common.{◌≡◌, ◌<◌, length, replicate, None, refl, ◌∙◌, subst, arith}
 use Rattle.std.proofs.lemmas.List.{length-set}
-use Rattle.motion.specs.World.{world}
 use Rattle.motion.proofs.Orders.{OrderedFirst, ordered_none, ordered_more, refused_none, refused_more, lawful_none, lawful_more}
 use Rattle.motion.proofs.ordering.order_all.Goals as goal
 

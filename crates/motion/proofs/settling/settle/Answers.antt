@@ -1,7 +1,7 @@
 use Rattle.std.proofs.Common.{length, refl, ap, ◌∙◌, arith, w32, SFits, rules}
 use Rattle.std.proofs.lemmas.Int.{to_z-of_z}
 use Rattle.moves.specs.declared.table.Axis.{Axis}
-use Rattle.moves.specs.Sheet.{Sheet, sheet, axis_at}
+use Rattle.moves.specs.Sheet.{Sheet, axis_at}
 use Rattle.moves.proofs.Sized.{sized_at}
 use Rattle.turns.specs.declared.turn.Turn.TheVariants.{Fail, Finish, Yield}
 use Rattle.motion.specs.World.{World, world, on_sheet}
