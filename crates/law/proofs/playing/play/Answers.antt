@@ -4,18 +4,15 @@ use Rattle.sequencer.specs.Whole.{world_of}
 use Rattle.law.specs.declared.order.Order.TheVariants.{PowerOn}
 use Rattle.law.specs.Laws.Law.{Played}
 use Rattle.law.specs.Runs.{Fresh}
-use Rattle.law.proofs.Played.{played_none, played_more, played_all, new_is, new_fresh}
+use Rattle.law.proofs.Played.{played_none, played_more, played_all, new_fresh}
 use Rattle.law.proofs.playing.play.Goals as goal
 
 pub loop-order-init : goal.loop-order-init
 loop-order-init g c =
-    let shows = g.S.Segment.shows in
-    let begins =
-    new_is shows c.new-sequencer.result c.args.segment c.clear.new.self (held_room c.args.trail.now)
-    c.new-sequencer.ensures.table c.new-sequencer.ensures.segment c.clear.ensures.words c.clear.ensures.room in (
+    let shows = g.S.Segment.shows in (
       omega arith,
-      played_none (world_of shows c.new-sequencer.result c.clear.new.self)
-          (subst Fresh (sym begins) (new_fresh (shows c.args.segment) (held_room c.args.trail.now) (g.S.Segment.sound c.args.segment))),
+      played_none (world_of shows c.begin-sequencer.result c.begin-sequencer.new.trail)
+          (subst Fresh (sym c.begin-sequencer.ensures) (new_fresh (shows c.args.segment) (held_room c.args.trail.now) (g.S.Segment.sound c.args.segment))),
     )
 
 pub loop-order-preserved : goal.loop-order-preserved
@@ -29,8 +26,5 @@ loop-order-preserved g c = (
 pub returns : goal.returns
 returns g c =
     let shows = g.S.Segment.shows in
-    let begins =
-    new_is shows c.new-sequencer.result c.args.segment c.clear.new.self (held_room c.args.trail.now)
-    c.new-sequencer.ensures.table c.new-sequencer.ensures.segment c.clear.ensures.words c.clear.ensures.room in
-    subst (λ start. Played start c.args.orders.now (world_of shows c.loop-order.sequencer c.loop-order.trail)) begins
+    subst (λ start. Played start c.args.orders.now (world_of shows c.loop-order.sequencer c.loop-order.trail)) c.begin-sequencer.ensures
     (played_all _ c.args.orders.now c.loop-order.order-index _ c.loop-order-test.false c.loop-order.invariant.1)
