@@ -75,22 +75,9 @@ pub fn block_of(axis: u8, instruction: Instruction, mode: BufferMode) -> Block
             velocity,
             max_acceleration,
         } => waiting_block(axis, command, mode, velocity, 0, max_acceleration),
-        Instruction::Halt { max_acceleration } => waiting_block(
-            axis,
-            command,
-            mode,
-            0,
-            0,
-            max_acceleration,
-        ),
-        Instruction::Stop { max_acceleration } => waiting_block(
-            axis,
-            command,
-            mode,
-            0,
-            0,
-            max_acceleration,
-        ),
+        Instruction::Halt { max_acceleration } | Instruction::Stop { max_acceleration } => {
+            waiting_block(axis, command, mode, 0, 0, max_acceleration)
+        }
     }
 }
 
