@@ -1,106 +1,81 @@
 -- Runs of ramp steps. Assumes nothing.
-use Rattle.std.proofs.Common.{◌≡◌, ℕ, zero, suc, ◌+◌, ◌-◌, ◌<◌, ◌≤◌, min, ℤ, pos, negsuc, ◌-ℤ◌, neg_ℤ, refl, ap, ◌∙◌, arith}
-use native.Mathlib.Decide.{dec_le}
+use Rattle.std.proofs.Common.{◌≡◌, ℕ, zero, suc, ◌+◌, ◌-◌, ◌<◌, ◌≤◌, min, max, ℤ, pos, negsuc, neg_ℤ, refl, ap, ◌∙◌, ◌-ℤ◌, arith}
 use Rattle.std.proofs.lemmas.Int.{ints, clamps}
 use Rattle.ramp.specs.Stopping.{stopping}
-use Rattle.ramp.specs.RampStep.{largest_step, step_ahead, ramp_step}
+use Rattle.ramp.specs.RampStep.{largest_step, ramp_step}
 use Rattle.ramp.specs.Limits.{LawfulRate}
 use Rattle.ramp.specs.Near.{Near}
 use Rattle.ramp.specs.Run.{Going, stepped, after}
 use Rattle.ramp.specs.Laws.Run.{NeverPasses, StaysBounded}
-use Rattle.ramp.proofs.Terms.{stopping_last, stopping_more, speed_below}
+use Rattle.ramp.proofs.Terms.{stopping_none, stopping_more, speed_below}
 use Rattle.ramp.proofs.Largest.{step_is_largest}
 use Rattle.ramp.proofs.Nears.{near_begin, near_step}
 
--- after a step of t within e the rest suffices to stop from one braking later
-can_stop_on : (decel e t : ℕ) → 0 < decel → stopping decel t ≤ e → (t ≤ e) × (stopping decel (t - decel) ≤ e - t)
-can_stop_on decel e zero h stops =
-    let none = stopping_last decel 0 (omega arith) in
-    (omega arith, omega arith)
-can_stop_on decel e (suc t) h stops =
-    let least = speed_below decel (suc t) in
-    let more = stopping_more decel (suc t) h (omega arith) in
-    (omega arith, omega arith)
-
--- where the axis can stop within e by braking, the step towards e ahead can stop within e too
-step_can_stop : (e v top accel decel : ℕ) → stopping decel (v - decel) ≤ e →
-    (t : ℕ) × (step_ahead e (pos v) top accel decel ≡ pos t) × (stopping decel t ≤ e)
-step_can_stop e v top accel decel brakes =
-    let cap = min (v + accel) top in
-    let w = largest_step e decel cap in
-    elim (dec_le (v - decel) w) [
-      | yes p ↦ (w, omega (arith, ints, clamps), (step_is_largest e decel cap).stops)
-      | no p ↦ (v - decel, omega (arith, ints, clamps), brakes)
-    ]
-
--- a side of the target: how its distances and the velocities towards it are written
-record Side (side : ℤ → ℤ) : Type 0 where
-  rest : (e t : ℕ) → t ≤ e → side (pos e) -ℤ side (pos t) ≡ side (pos (e - t))
-  steps : (e v top accel decel t : ℕ) → stopping decel (v - decel) ≤ e → t ≤ e →
-      step_ahead e (pos v) top accel decel ≡ pos t →
-      ramp_step (side (pos e)) (side (pos v)) top accel decel ≡ side (pos t)
-
-below : Side (λ z. z)
-below = record { rest = λ e t l. omega (arith, ints); steps = λ e v top accel decel t b l q. q }
-
-steps_above : (e v top accel decel t : ℕ) → stopping decel (v - decel) ≤ e → t ≤ e →
-    step_ahead e (pos v) top accel decel ≡ pos t →
-    ramp_step (neg_ℤ (pos e)) (neg_ℤ (pos v)) top accel decel ≡ neg_ℤ (pos t)
-steps_above zero zero top accel decel t b l q = q ∙ omega (arith, ints)
-steps_above zero (suc v) top accel decel t b l q = omega (arith, ints, clamps, speed_below decel (suc v - decel))
-steps_above (suc e) zero top accel decel t b l q = ap neg_ℤ q
-steps_above (suc e) (suc v) top accel decel t b l q = ap neg_ℤ q
-
-above : Side neg_ℤ
-above = record { rest = λ e t l. omega (arith, ints); steps = steps_above }
-
--- of d on one side e remain, the velocity v is towards the target, and braking suffices to stop there
-record Safe (side : ℤ → ℤ) (decel d : ℕ) (g : Going) : Type 0 where
+-- a move towards a target ahead: of d there remain at least 0, and braking suffices to stop there
+record Safe (decel d : ℕ) (g : Going) : Type 0 where
   e : ℕ
   v : ℕ
-  left : g.distance ≡ side (pos e)
-  towards : g.velocity ≡ side (pos v)
+  left : g.distance ≡ pos e
+  towards : g.velocity ≡ pos v
   within : e ≤ d
   brakes : stopping decel (v - decel) ≤ e
 
-safe_more : (side : ℤ → ℤ) → Side side → (top accel decel d : ℕ) (g : Going) → 0 < decel → Safe side decel d g →
-    Safe side decel d (stepped g top accel decel)
-safe_more side on top accel decel d g h s =
-    let next = step_can_stop s.e s.v top accel decel s.brakes in
-    let t = next.0 in
-    let rest = can_stop_on decel s.e t h next.2 in
-    let there = on.steps s.e s.v top accel decel t s.brakes rest.0 next.1 in
-    let step : ramp_step g.distance g.velocity top accel decel ≡ side (pos t) = rw (s.left, s.towards) there in
+-- the larger of the largest step and the hardest braking stops too
+safe_step : (top accel decel d : ℕ) (g : Going) → 0 < decel → Safe decel d g → Safe decel d (stepped g top accel decel)
+safe_step top accel decel d g h s =
+    let cap = min (s.v + accel) top in
+    let t = max (largest_step s.e decel cap) (s.v - decel) in
+    let l = step_is_largest s.e decel cap in
+    let stops : stopping decel t ≤ s.e = grind arith in
+    let rest : (t ≤ s.e) × (stopping decel (t - decel) ≤ s.e - t) = grind (arith, stopping_more, stopping_none, speed_below) in
     record {
       e = s.e - t;
       v = t;
-      left = rw (step, s.left) (on.rest s.e t rest.0);
-      towards = step;
-      within = omega (arith, s.within);
+      left = rw (s.left, s.towards) (omega (arith, ints, clamps));
+      towards = rw (s.left, s.towards) (omega (arith, ints, clamps));
+      within = omega arith;
       brakes = rest.1;
     }
 
-safe_run : (side : ℤ → ℤ) → Side side → (top accel : ℕ → ℕ) (decel d : ℕ) (g : Going) → 0 < decel →
-    Safe side decel d g → (n : ℕ) → Safe side decel d (after top accel (λ _. decel) g n)
-safe_run side on top accel decel d g h s zero = s
-safe_run side on top accel decel d g h s (suc n) =
-    let before = after top accel (λ _. decel) g n in
-    safe_more side on (top n) (accel n) decel d before h (safe_run side on top accel decel d g h s n)
+safe_run : (top accel : ℕ → ℕ) (decel d : ℕ) (g : Going) → 0 < decel → Safe decel d g → (n : ℕ) →
+    Safe decel d (after top accel (λ _. decel) g n)
+safe_run top accel decel d g h s zero = s
+safe_run top accel decel d g h s (suc n) =
+    safe_step (top n) (accel n) decel d _ h (safe_run top accel decel d g h s n)
 
-safe_standstill : (side : ℤ → ℤ) (decel d : ℕ) (g : Going) → g.distance ≡ side (pos d) → g.velocity ≡ side (pos 0) →
-    Safe side decel d g
-safe_standstill side decel d g left towards =
-    let none = stopping_last decel 0 (omega arith) in
-    record { e = d; v = 0; left = left; towards = towards; within = omega arith; brakes = omega arith }
+from_standstill : (top accel : ℕ → ℕ) (decel d : ℕ) → 0 < decel → (n : ℕ) →
+    Safe decel d (after top accel (λ _. decel) (record { distance = pos d; velocity = pos 0 }) n)
+from_standstill top accel decel d h n =
+    safe_run top accel decel d _ h
+    (record { e = d; v = 0; left = refl; towards = refl; within = omega arith; brakes = grind (arith, stopping_none) })
+    n
+
+-- the same move seen from the other side
+abbrev turned : Going → Going
+turned g = record { distance = neg_ℤ g.distance; velocity = neg_ℤ g.velocity }
+
+step_turned : (d v : ℤ) (top accel decel : ℕ) →
+    ramp_step (neg_ℤ d) (neg_ℤ v) top accel decel ≡ neg_ℤ (ramp_step d v top accel decel)
+step_turned d v top accel decel = grind (arith, ints, clamps, speed_below, step_is_largest)
+
+stepped_turned : (g : Going) (top accel decel : ℕ) → stepped (turned g) top accel decel ≡ turned (stepped g top accel decel)
+stepped_turned g top accel decel =
+    let step = ramp_step g.distance g.velocity top accel decel in
+    let rest : neg_ℤ g.distance -ℤ neg_ℤ step ≡ neg_ℤ (g.distance -ℤ step) = omega (arith, ints) in
+    rw (step_turned g.distance g.velocity top accel decel, rest)
+
+after_turned : (top accel decel : ℕ → ℕ) (g : Going) (n : ℕ) →
+    after top accel decel (turned g) n ≡ turned (after top accel decel g n)
+after_turned top accel decel g zero = refl
+after_turned top accel decel g (suc n) = ap (λ g. stepped g (top n) (accel n) (decel n)) (after_turned top accel decel g n) ∙ stepped_turned (after top accel decel g n) (top n) (accel n) (decel n)
 
 pub never_passes : NeverPasses
 never_passes top accel decel h (pos d) n =
-    let g : Going = record { distance = pos d; velocity = pos 0 } in
-    let s = safe_run (λ z. z) below top accel decel d g h (safe_standstill (λ z. z) decel d g refl refl) n in
+    let s = from_standstill top accel decel d h n in
     (omega (arith, ints, s.left), omega (arith, ints, s.left, s.within))
 never_passes top accel decel h (negsuc d) n =
-    let g : Going = record { distance = negsuc d; velocity = pos 0 } in
-    let s = safe_run neg_ℤ above top accel decel (suc d) g h (safe_standstill neg_ℤ decel (suc d) g refl refl) n in
+    let s = from_standstill top accel decel (suc d) h n in
+    let e = ap (λ g. g.distance) (after_turned top accel (λ _. decel) (record { distance = pos (suc d); velocity = pos 0 }) n) in
     (omega (arith, ints, s.left, s.within), omega (arith, ints, s.left))
 
 -- a run that is near its target stays near it
@@ -112,7 +87,7 @@ near_run top accel decel ht hd g near (suc n) =
     let now = after top accel decel g n in
     let next = stepped now (top n) (accel n) (decel n) in
     let brakes : 0 < decel n = (hd n).least in
-    near_step now.distance now.velocity next.velocity (top n) (accel n) (decel n) brakes (ht n).most refl
+    near_step now.distance now.velocity next.distance next.velocity (top n) (accel n) (decel n) brakes (ht n).most refl refl
     (near_run top accel decel ht hd g near n)
 
 pub stays_bounded : StaysBounded

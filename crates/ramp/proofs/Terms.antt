@@ -1,5 +1,5 @@
 -- Stopping distances, term by term. Assumes nothing.
-use Rattle.std.proofs.Common.{◌≡◌, ℕ, zero, suc, ◌+◌, ◌-◌, ◌<◌, ◌≤◌, sym, refl, ap, ◌∙◌, arith}
+use Rattle.std.proofs.Common.{◌≡◌, ℕ, zero, suc, ◌+◌, ◌-◌, ◌<◌, ◌≤◌, sym, refl, ap, arith}
 use Rattle.ramp.specs.Stopping.{terms, stopping}
 use Rattle.ramp.specs.Laws.Stopping.{StoppingGrows}
 
@@ -22,22 +22,14 @@ pub stopping_none : (decel : ℕ) → stopping decel 0 ≡ 0
 unfolding stopping
 stopping_none decel = refl
 
--- a step of at most decel is the last
-pub stopping_last : (decel w : ℕ) → w ≤ decel → stopping decel (w - decel) ≡ 0
-stopping_last decel w h = ap (stopping decel) (omega arith) ∙ stopping_none decel
-
 pub stopping_more : (decel w : ℕ) → 0 < decel → 0 < w → stopping decel w ≡ w + stopping decel (w - decel)
 unfolding stopping
-stopping_more decel zero h p = absurd (omega arith)
-stopping_more decel (suc w) h p =
-    let rest = suc w - decel in
-    ap (λ n. suc w + n) (terms_enough w rest decel rest h (omega arith) (omega arith))
+stopping_more decel w h p = grind (arith, terms_enough)
 
 -- a speed runs on at least by itself
 pub speed_below : (decel w : ℕ) → w ≤ stopping decel w
 unfolding stopping
-speed_below decel zero = omega arith
-speed_below decel (suc w) = omega arith
+speed_below decel w = grind arith
 
 pub stopping_grows : StoppingGrows
 unfolding stopping

@@ -1,4 +1,5 @@
 pub mod Stopping
+pub mod Series
 pub mod RampStep
 pub mod VelocityStep
 pub mod Limits

@@ -7,6 +7,7 @@ mod motion;
 mod rate;
 mod step;
 mod velocity;
+mod way;
 
 pub use motion::Motion;
 pub use rate::{Ramp, Rate};
@@ -39,6 +40,15 @@ mod tests {
         assert_eq!(rt; stepped(-3, 0, 5, 2), Some((-2, -1)));
         assert_eq!(rt; stepped(-1, -2, 5, 2), Some((-1, 0)));
         assert_eq!(rt; stepped(0, -1, 5, 2), Some((0, 0)));
+    }
+
+    #[test]
+    fn rates_and_motions_compare(rt: HostRuntime) {
+        assert_eq!(rt; Rate::new(1), Rate::new(1));
+        assert_ne!(rt; Rate::new(1), Rate::new(2));
+        assert_eq!(rt; Motion::begin(1, 5), Motion::begin(1, 5));
+        assert_ne!(rt; Motion::begin(1, 5), Motion::begin(1, -5));
+        assert_eq!(rt; Motion::begin(300_000_001, 0), None);
     }
 
     #[test]

@@ -2,7 +2,7 @@
 ghost use Rattle.ramp.specs.Near.{Near};
 
 /// Where a move stands: always so near to its target that no step leads out of the numbers.
-#[derive(Clone, Copy)]
+#[derive(Clone, Copy, PartialEq, Eq, Debug)]
 #[repr(C)]
 pub struct Motion {
     /// The target minus the demand, in increments.

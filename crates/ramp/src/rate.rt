@@ -3,7 +3,7 @@ ghost use Rattle.std.specs.Prelude.{◌≡◌, ◌≤◌, MatchOption};
 ghost use Rattle.ramp.specs.Limits.{LawfulRate};
 
 /// A top speed in increments per cycle, or a change of velocity in increments per cycle from one cycle to the next.
-#[derive(Clone, Copy)]
+#[derive(Clone, Copy, PartialEq, Eq, Debug)]
 #[repr(C)]
 pub struct Rate {
     /// From 1 to 10,000.
@@ -17,6 +17,7 @@ impl Rate {
     pub const MOST: u32 = 10_000;
 
     /// The rate of so many increments, or none where they are not from 1 to 10,000.
+    // An Option, and no TryFrom: the one refusal would need an error type that says no more than None.
     pub fn new(increments: u32) -> Option<Rate>
         ensures { MatchOption result (LawfulRate increments → ⊥) (λ rate. rate.increments ≡ increments) }
     {
@@ -28,7 +29,7 @@ impl Rate {
 }
 
 /// The limits of a move.
-#[derive(Clone, Copy)]
+#[derive(Clone, Copy, PartialEq, Eq, Debug)]
 #[repr(C)]
 pub struct Ramp {
     /// How fast the move goes at most; one that begins faster brakes down to it.

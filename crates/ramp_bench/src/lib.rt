@@ -17,6 +17,7 @@ pub struct Stepped {
 }
 
 /// The next step of a move.
+// C's interface: the two rates come one by one, and a struct stands for the pair, which has no layout of C's.
 #[unsafe(no_mangle)]
 pub extern "C" fn ramp_bench_step(
     motion: Motion,
