@@ -1,6 +1,7 @@
 -- An accepted follow is shown after a calm cycle. Assumes nothing.
 use Rattle.std.proofs.Common.{◌≡◌, ℕ, ◌<◌, eqb, ltb, ℤ, Some, None, Ok, Err, Result, sym, refl, ap, ◌∙◌, subst, inl, inr, arith}
 use Rattle.std.proofs.lemmas.Bool.{cond-true, eq-eqb, lt-ltb}
+use Rattle.std.proofs.lemmas.Option.{none-some}
 use Rattle.segment.specs.declared.refusal.Reason.TheVariants.{NoSuchAxis}
 use Rattle.segment.specs.declared.refusal.Refusal.{Refusal}
 use Rattle.segment.specs.declared.axis.AxisLook.{AxisLook}
@@ -47,5 +48,4 @@ moved_on before ordered after axis position (Err e) f c l =
     let here = (ready before axis position f.0).there in
     let counts : after.count ≡ before.count = c.count ∙ ap (λ row. row.count) f.1 in
     let there = cond-true (ltb axis after.count) None (Some NoSuchAxis) (lt-ltb axis after.count (omega arith)) in
-    let z : ◌≡◌ {A = ℕ} 0 1 = cc in
-    absurd (omega arith)
+    absurd (none-some _ (sym there ∙ l))

@@ -82,7 +82,7 @@ off_turn before after (clear k) axis lt t h =
 off_turn before after cycle axis lt t h = inr (off_kept_cycle (before.at axis) (after.at axis) (t.each axis lt) h)
 
 not_off : (power : Power) → power ≡ On → IsOff power → ⊥
-not_off Off e h = let z : ◌≡◌ {A = ℕ} 0 1 = cc in omega arith
+not_off Off e h = cc
 not_off Coming e h = h
 not_off On e h = h
 

@@ -1,14 +1,12 @@
 -- What an accepted follow tells of the axis. Assumes nothing.
-use Rattle.std.proofs.Common.{◌≡◌, ℕ, ◌<◌, Bool, true, false, cond, eqb, ltb, ℤ, Some, None, refl, arith}
+use Rattle.std.proofs.Common.{◌≡◌, ℕ, ◌<◌, Bool, true, false, cond, eqb, ltb, ℤ, Some, None, sym, refl}
 use Rattle.std.proofs.lemmas.Bool.{ltb-true, eqb-true}
+use Rattle.std.proofs.lemmas.Option.{none-some}
 use Rattle.segment.specs.declared.axis.Power.{Power}
 use Rattle.segment.specs.declared.axis.Power.TheVariants.{Off, Coming, On}
 use Rattle.segment.specs.declared.refusal.Reason.TheVariants.{NoSuchAxis, Faulted, OutOfRange}
 use Rattle.segment.specs.Calls.{in_range, unless_on, follow_reason}
 use Rattle.segment.specs.Row.{Row}
-
-some_none : {X : Type 0} {x : X} → Some x ≡ None → ⊥
-some_none e = let z : ◌≡◌ {A = ℕ} 0 1 = cc in omega arith
 
 -- three tests that let a follow pass
 record Passed (there calm : Bool) (power : Power) : Type 0 where
@@ -20,11 +18,11 @@ passed :
     (there calm range : Bool) (power : Power) →
     cond there (cond calm (unless_on power (cond range None (Some OutOfRange))) (Some Faulted)) (Some NoSuchAxis) ≡ None →
     Passed there calm power
-passed true true range Off e = absurd (some_none e)
-passed true true range Coming e = absurd (some_none e)
+passed true true range Off e = absurd (none-some _ (sym e))
+passed true true range Coming e = absurd (none-some _ (sym e))
 passed true true range On e = record { there_is = refl; calm_is = refl; on = refl }
-passed true false range power e = absurd (some_none e)
-passed false calm range power e = absurd (some_none e)
+passed true false range power e = absurd (none-some _ (sym e))
+passed false calm range power e = absurd (none-some _ (sym e))
 
 -- an axis that may follow is there, without a fault, and on
 pub record Ready (row : Row) (axis : ℕ) : Type 0 where

@@ -1,5 +1,6 @@
 -- What a call below makes of the row of a stage that shows h of each axis. Assumes nothing.
-use Rattle.std.proofs.Common.{◌≡◌, ℕ, ◌<◌, cond, eqb, ltb, ℤ, Some, None, Ok, Err, Option, Result, sym, refl, ap, ◌∙◌, subst, inl, inr, ⊎_elim, arith}
+use Rattle.std.proofs.Common.{◌≡◌, ℕ, ◌<◌, cond, eqb, ltb, ℤ, Some, None, Ok, Err, Option, Result, sym, refl, ap, ◌∙◌, subst, inl, inr, ⊎_elim}
+use Rattle.std.proofs.lemmas.Option.{none-some}
 use Rattle.std.proofs.lemmas.Bool.{cases_eq, cases_lt, lt-ltb, le-ltb, eq-eqb, ne_eqb, cond-true, cond-false}
 use Rattle.segment.specs.declared.axis.AxisLook.{AxisLook}
 use Rattle.segment.specs.declared.refusal.Reason.{Reason}
@@ -13,7 +14,7 @@ use Rattle.segment.specs.Cycle.{AxisCycled, Cycled}
 pub within : (n i : ℕ) → cond (ltb i n) None (Some NoSuchAxis) ≡ None → i < n
 within n i e =
     ⊎_elim (λ h. h)
-    (λ h. let k = cond-false (ltb i n) None (Some NoSuchAxis) (le-ltb i n h) in let z : ◌≡◌ {A = ℕ} 0 1 = cc in omega arith)
+    (λ h. absurd (none-some _ (sym e ∙ cond-false (ltb i n) None (Some NoSuchAxis) (le-ltb i n h))))
     (cases_lt i n)
 
 pub ready_from :
@@ -54,12 +55,6 @@ answers_up h reason' reason before after after' left (Ok x) (Err y) w e p a = ab
 answers_up h reason' reason before after after' left (Err x) (Ok y) w e p a = absurd p
 answers_up h reason' reason before after after' left (Err x) (Err y) w e p a =
     (w ∙ a.0 ∙ ap Some (sym p), ap (mapped h) a.1)
-
--- a call that does the same to h of an axis, and asks nothing of it
-pub passed_up : {X : Type 0} (h : ℕ → AxisLook → AxisLook) (f : AxisLook → AxisLook) (reason : Option Reason) (row left : Row) (i : ℕ) (r s : Result X Refusal)
-    → h i (f (row.at i)) ≡ f (h i (row.at i)) → Handed r s → Answers reason row (changed f row i) r left → Answers reason (mapped h row) (changed f (mapped h row) i) s (mapped h left)
-passed_up h f reason row left i r s same =
-    answers_up h reason reason row _ _ left r s refl (λ _. changed_mapped h f f row i same)
 
 pub cycled_up :
     (h : ℕ → AxisLook → AxisLook) (before after : Row) →

@@ -54,6 +54,10 @@ axis_reason row axis = cond (nat_lt axis row.count) None (Some NoSuchAxis)
 abbrev pub in_range : AxisLook → ℤ → Bool
 in_range a position = int_le a.low position && int_le position a.high
 
+-- a position, if it lies in the axis's range
+abbrev pub in_range_or_none : AxisLook → ℤ → Option ℤ
+in_range_or_none a position = cond (in_range a position) (Some position) None
+
 -- power is not on, or else the next reason
 abbrev pub unless_on : Power → Option Reason → Option Reason
 unless_on Off others = Some PowerNotOn

@@ -1,5 +1,5 @@
 -- A segment's row of axes, and when it is sound. Assumes nothing.
-use Rattle.std.specs.Prelude.{ℕ, ◌<◌, ◌≤◌, cond, ℤ, pos, negsuc, ◌≤ℤ◌, ◌==◌}
+use Rattle.std.specs.Prelude.{ℕ, ◌<◌, ◌≤◌, Bool, cond, ◌&&◌, ℤ, pos, negsuc, ◌≤ℤ◌, ◌==◌, int_le}
 use Rattle.segment.specs.declared.axis.AxisLook.{AxisLook}
 use Rattle.segment.specs.declared.axis.Power.{Power}
 use Rattle.segment.specs.declared.axis.Power.TheVariants.{Off, Coming, On}
@@ -7,6 +7,10 @@ use Rattle.segment.specs.declared.axis.Power.TheVariants.{Off, Coming, On}
 -- a position is within a hundred million increments of 0
 abbrev pub Position : ℤ → Type 0
 Position p = (negsuc 99999999 ≤ℤ p) × (p ≤ℤ pos 100000000)
+
+-- the same as a test
+abbrev pub is_position : ℤ → Bool
+is_position p = int_le (negsuc 99999999) p && int_le p (pos 100000000)
 
 -- power is off
 abbrev pub IsOff : Power → Type 0

@@ -1,5 +1,8 @@
 //! What a segment shows of an axis.
 
+pub mod display;
+pub mod methods;
+
 /// The power of an axis.
 #[derive(Clone, Copy, PartialEq, Eq, Debug)]
 pub enum Power {
@@ -21,6 +24,7 @@ pub struct AxisLook {
     /// The position measured.
     pub actual: i32,
     /// 0, or the fault's code, 1 to 15.
+    // No plainer as an `Option`: `Some(0)` would have to be ruled out besides, and CiA 402's own error code has 0 for none.
     pub fault: u8,
     /// The lowest position that may be ordered.
     pub low: i32,

@@ -6,6 +6,7 @@ pub mod meaning;
 pub mod moving;
 pub mod refusal;
 
+pub use axis::methods::{REACH, is_position};
 pub use axis::{AxisLook, Power};
 pub use meaning::Segment;
 pub use moving::follow_and_cycle;

@@ -18,6 +18,7 @@ fn look_after_cycle<S: Segment>(segment: &mut S, axis: usize) -> Result<AxisLook
 }
 
 /// Orders an axis to a position, runs a cycle, and answers how the axis then looks.
+#[tactic(auto, using(crate::proofs::Follows::follow_is_shown, crate::proofs::Locks::faults_lock_out))]
 pub fn follow_and_cycle<S: Segment>(
     segment: &mut S,
     axis: usize,

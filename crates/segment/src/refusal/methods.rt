@@ -1,17 +1,24 @@
 //! Numbers of reasons, and refusals that are made and handed up.
 ghost use Rattle.std.specs.Prelude.{◌≡◌, ◌+◌, min};
-ghost use Rattle.segment.specs.Refusal.{reason_number};
+ghost use Rattle.segment.specs.Refusal.{reason_number, Own};
 
 use super::{Reason, Refusal};
 
 const DEEPEST: u8 = 15;
 
-impl Reason {
-    /// The number of the reason.
-    pub fn number(self) -> u8
-        ensures { result ≡ reason_number self }
-    {
-        self as u8
+impl From<Reason> for u8 {
+    ghost from_gives = { λ reason number. number ≡ reason_number reason };
+
+    fn from(reason: Reason) -> u8 {
+        reason as u8
+    }
+}
+
+impl From<Reason> for Refusal {
+    ghost from_gives = { λ reason refusal. Own reason refusal };
+
+    fn from(reason: Reason) -> Refusal {
+        Refusal::new(reason)
     }
 }
 
