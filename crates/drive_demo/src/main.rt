@@ -2,34 +2,15 @@
 //! how the axis looks and the state of its drive after each call.
 #![tactic(auto)]
 
-use drives::{Bank, Cia402Axis, DriveState, cia402_segment};
-use segment::{Power, Refusal, Segment};
+use drives::{Bank, Cia402Axis, cia402_segment};
+use segment::{AxisLook, Refusal, Segment};
 use stages::{Mirror, SoftLimits};
 use std::io;
 
 type Line = SoftLimits<Mirror<Bank<Cia402Axis>>>;
 
-fn power_name(power: Power) -> &'static str {
-    match power {
-        Power::Off => "off",
-        Power::Coming => "coming",
-        Power::On => "on",
-    }
-}
-
-fn state_name(state: DriveState) -> &'static str {
-    match state {
-        DriveState::NotReadyToSwitchOn => "not ready to switch on",
-        DriveState::SwitchOnDisabled => "switch on disabled",
-        DriveState::ReadyToSwitchOn => "ready to switch on",
-        DriveState::SwitchedOn => "switched on",
-        DriveState::OperationEnabled => "operation enabled",
-        DriveState::FaultReactionActive => "fault reaction active",
-        DriveState::Fault => "fault",
-    }
-}
-
 // One line: what was called, how the axis looks from above, and its drive's state at the bottom.
+// No plainer with an error enum and `?`: each of the four refusals of this program has a text of its own.
 fn show(rt: &HostRuntime, call: &str, line: &Line) -> io::Result<()> {
     let Ok(look) = line.look(0) else {
         return rt.println("no axis 0");
@@ -37,25 +18,25 @@ fn show(rt: &HostRuntime, call: &str, line: &Line) -> io::Result<()> {
     let Ok(state) = line.below().below().drive_state(0) else {
         return rt.println("no drive 0");
     };
-    let power = power_name(look.power);
-    let state = state_name(state);
-    let demand = look.demand;
-    let actual = look.actual;
-    let fault = look.fault;
-    let low = look.low;
-    let high = look.high;
+    let AxisLook {
+        power,
+        demand,
+        actual,
+        fault,
+        low,
+        high,
+    } = look;
     println!(rt;
         "{call}: power {power}, demand {demand}, actual {actual}, fault {fault}, range {low} to {high}; {state}"
     )
 }
 
 // What a call answered, where it was refused.
-fn answered(rt: &HostRuntime, call: &str, res: Result<(), Refusal>) -> io::Result<()> {
-    match res {
-        Ok(()) => Ok(()),
-        Err(refusal) => {
-            let number = refusal.reason.number();
-            let depth = refusal.depth;
+fn answered<T: Copy>(rt: &HostRuntime, call: &str, answer: Result<T, Refusal>) -> io::Result<()> {
+    match answer {
+        Ok(_) => Ok(()),
+        Err(Refusal { reason, depth, .. }) => {
+            let number = u8::from(reason);
             println!(rt; "{call}: refused {number} at depth {depth}")
         }
     }
@@ -71,38 +52,27 @@ fn cycles(rt: &HostRuntime, line: &mut Line, count: u32) -> io::Result<()> {
 
 // Follows to a position in one order, and shows the cycles until the drive has caught up.
 fn go(rt: &HostRuntime, line: &mut Line, position: i32, count: u32) -> io::Result<()> {
-    let result = line.follow(0, position);
-    answered(rt, "follow", result)?;
+    answered(rt, "follow", line.follow(0, position))?;
     show(rt, "follow", line)?;
     cycles(rt, line, count)
 }
 
 fn work(rt: &HostRuntime, line: &mut Line) -> io::Result<()> {
     show(rt, "new", line)?;
-    let result = line.follow(0, 10);
-    answered(rt, "follow", result)?;
-    let result = line.power_on(0);
-    answered(rt, "power on", result)?;
+    answered(rt, "follow", line.follow(0, 10))?;
+    answered(rt, "power on", line.power_on(0))?;
     cycles(rt, line, 4)?;
     go(rt, line, 25, 3)?;
     go(rt, line, 60, 1)?;
-    let result = line.trip(0, 7);
-    answered(rt, "trip", result)?;
+    answered(rt, "trip", line.trip(0, 7))?;
     show(rt, "trip", line)?;
     cycles(rt, line, 2)?;
-    let result = line.follow(0, 10);
-    answered(rt, "follow", result)?;
-    let result = line.clear(0);
-    answered(rt, "clear", result)?;
+    answered(rt, "follow", line.follow(0, 10))?;
+    answered(rt, "clear", line.clear(0))?;
     show(rt, "clear", line)?;
-    let result = line.power_on(0);
-    answered(rt, "power on", result)?;
+    answered(rt, "power on", line.power_on(0))?;
     cycles(rt, line, 3)?;
-    let result = line.look(1);
-    match result {
-        Ok(_) => Ok(()),
-        Err(refusal) => answered(rt, "look at axis 1", Err(refusal)),
-    }
+    answered(rt, "look at axis 1", line.look(1))
 }
 
 fn main(rt: HostRuntime) -> io::Result<()> {

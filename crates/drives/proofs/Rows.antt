@@ -1,7 +1,7 @@
 -- The row that a bank shows: its first n drives, each as it is seen. Assumes nothing.
-use Rattle.std.proofs.Common.{◌≡◌, ℕ, ◌+◌, ◌<◌, ◌≤◌, ◌≢◌, List, [], ◌∷◌, map, length, get_or, take, set, sym, refl, ap, ◌∙◌, subst, ⊎_elim, arith, length-take, get_or-set_other, get_or-take, get_or-set_same}
+use Rattle.std.proofs.Common.{◌≡◌, ℕ, ◌+◌, ◌<◌, ◌≤◌, ◌≢◌, List, [], ◌∷◌, ◌++◌, map, length, get_or, take, set, sym, refl, ap, ◌∙◌, subst, ⊎_elim, arith, length-take, get_or-set_other, get_or-take, get_or-set_same}
 use lib.Seq.{take-set-lt, map-set}
-use Rattle.std.proofs.lemmas.List.{length-map, get_or-map, get_or_default}
+use Rattle.std.proofs.lemmas.List.{length-map, length-take-le, get_or-map, get_or_append_left, get_or_default}
 use Rattle.std.proofs.lemmas.Bool.{cases_eq}
 use Rattle.segment.specs.declared.axis.AxisLook.{AxisLook}
 use Rattle.segment.specs.Row.{changed}
@@ -60,6 +60,14 @@ gone_more {D} R xs ys i x y lt inv r = (
 
     there : (k : ℕ) (d : D) → k < i + 1 → (k ≡ i → ⊥) → R (get_or xs k d) (get_or (set ys i y) k d)
     there k d h ne = let other : k ≢ i = ne in rw get_or-set_other (inv.0 k d (omega arith))
+
+-- after a loop that went through the first n, with the others behind them
+pub gone_all : {D : Type 0} (R : D → D → Type 0) (n i : ℕ) (xs ys rest : List D) → n ≤ length xs → length ys ≡ length (take n xs)
+    → length (take n xs) ≤ i → Gone R (take n xs) ys i → (k : ℕ) (d : D) → k < n → R (get_or xs k d) (get_or (ys ++ rest) k d)
+gone_all R n i xs ys rest p l q gone k d h =
+    let n_long = length-take-le n xs p in
+    let in_ys : k < length ys = omega arith in
+    rw (get_or_append_left, ← get_or-take n xs k d h) (gone.0 k d (omega arith))
 
 pub shown_cycled : {D : Type 0} (f : D → AxisLook) (n m : ℕ) (xs ys : List D) → m ≡ n → n ≤ length xs → n ≤ length ys
     → ((k : ℕ) (d : D) → k < n → AxisCycled (f (get_or xs k d)) (f (get_or ys k d))) → Cycled (shown_row f n xs) (shown_row f m ys)

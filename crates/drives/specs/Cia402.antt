@@ -33,7 +33,7 @@ parts d = record {
   actual = d.actual;
   low = d.low;
   high = d.high;
-  lag = d.lag;
+  lag = d.lag.increments;
 }
 
 -- ---- what it shows

@@ -2,6 +2,7 @@ pub mod Cia402
 pub mod Fitting
 pub mod Laws
 pub mod Making
+pub mod Names
 pub mod Orders
 pub mod Rest
 pub mod Settings

@@ -1,6 +1,8 @@
 -- The orders that a drive takes, and what an order to one of a row leaves. Assumes nothing.
-use Rattle.std.specs.Prelude.{◌≡◌, ℕ, ◌<◌, List, ℤ, Ok, Err, Result, ◌≢◌, slice_index_or}
+use Rattle.std.specs.Prelude.{◌≡◌, ℕ, ◌<◌, ◌≤◌, List, ℤ, Ok, Err, Result, ◌≢◌, slice_index_or}
+use Rattle.segment.specs.declared.refusal.Reason.TheVariants.{NoSuchAxis}
 use Rattle.segment.specs.declared.refusal.Refusal.{Refusal}
+use Rattle.segment.specs.Refusal.{Own}
 use Rattle.drives.specs.declared.bank.Bank.{Bank}
 
 -- an order to a drive
@@ -11,6 +13,11 @@ pub data Order : Type 0 where
   trip_with : ℕ → Order
   clear_it : Order
   cycle_it : Order
+
+-- whether a row has an axis
+abbrev pub There : {D : Type 0} → Bank D → ℕ → Result (Unit {0}) Refusal → Type 0
+There bank axis (Ok x) = axis < bank.count
+There bank axis (Err e) = (bank.count ≤ axis) × Own NoSuchAxis e
 
 -- the drive at an axis obeyed, and the others stayed as they were
 pub record Obeyed {D : Type 0} (obeys : Order → D → D → Type 0) (order : Order) (axis : ℕ) (before after : List D) : Type 0 where

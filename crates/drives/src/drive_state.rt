@@ -1,5 +1,8 @@
 //! The states of a drive by CiA 402.
 
+pub mod arrows;
+pub mod display;
+
 /// A drive's state.
 #[derive(Clone, Copy, PartialEq, Eq, Debug)]
 pub enum DriveState {

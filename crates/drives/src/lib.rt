@@ -8,6 +8,7 @@ pub mod drive;
 pub mod drive_state;
 pub mod making;
 pub mod row;
+pub mod settings;
 pub mod virtual_axis;
 pub mod virtual_drive;
 

@@ -1,37 +1,20 @@
 //! A bank of drives is a segment.
-ghost use Rattle.std.specs.Prelude.{◌≡◌, Some, None, MatchResult};
-ghost use Rattle.segment.specs.Calls.{Looked, PoweredOn, PoweredOff, Followed, Tripped, Cleared, ready_reason};
+ghost use Rattle.segment.specs.Calls.{PoweredOn, PoweredOff, Followed, Tripped, Cleared};
 ghost use Rattle.segment.specs.Cycle.{Cycled};
-ghost use Rattle.drives.specs.Orders.{power_on, power_off, follow_to, trip_with, clear_it, ObeyedOrNot, AllCycled};
+ghost use Rattle.drives.specs.Orders.{power_on, power_off, follow_to, trip_with, clear_it, There, ObeyedOrNot, AllCycled};
 ghost use Rattle.drives.specs.Shown.{row_of, shown_sound};
 
 use crate::bank::Bank;
-use crate::drive::Drive;
-use segment::{AxisLook, Power, Reason, Refusal, Segment};
+use crate::drive::{Drive, MAX_TRIP_CODE};
+use segment::{AxisLook, Reason, Refusal, Segment};
 
-// Whether an axis may follow to a position.
-fn ready(look: AxisLook, position: i32) -> Result<(), Refusal>
-    ensures { MatchResult result (λ _. ready_reason look position ≡ None) (λ e. ready_reason look position ≡ Some e.reason) }
-{
-    if look.fault != 0 {
-        return Err(Refusal::new(Reason::Faulted));
-    }
-    match look.power {
-        Power::On => {}
-        _ => return Err(Refusal::new(Reason::PowerNotOn)),
-    }
-    if position < look.low || look.high < position {
-        return Err(Refusal::new(Reason::OutOfRange));
-    }
-    Ok(())
-}
-
-impl<D: Drive> Bank<D> {
-    fn look_at(&self, axis: usize) -> Result<AxisLook, Refusal>
-        ensures { Looked (row_of D.Drive.seen self.now) axis result }
+impl<D> Bank<D> {
+    // Whether the row has the axis.
+    pub(crate) fn there(&self, axis: usize) -> Result<(), Refusal>
+        ensures { There self.now axis result }
     {
         if axis < self.count {
-            Ok(self.drives[axis].shown())
+            Ok(())
         } else {
             Err(Refusal::new(Reason::NoSuchAxis))
         }
@@ -48,16 +31,17 @@ impl<D: Drive> Segment for Bank<D> {
     }
 
     fn look(&self, axis: usize) -> Result<AxisLook, Refusal> {
-        self.look_at(axis)
+        self.there(axis)?;
+        Ok(self.drives[axis].shown())
     }
 
+    // No plainer as one helper that takes the drive's method: each body of three lines would become one and a clause. One that
+    // lends the drive was tried: there is no proof of a borrow of an array's element in a struct with an invariant.
     fn power_on(&mut self, axis: usize) -> Result<(), Refusal>
         ensures meant { PoweredOn (row_of D.Drive.seen self.old) axis result (row_of D.Drive.seen self.new) }
         ensures exact { ObeyedOrNot D.Drive.obeys power_on axis self.old result self.new }
     {
-        if axis >= self.count {
-            return Err(Refusal::new(Reason::NoSuchAxis));
-        }
+        self.there(axis)?;
         self.drives[axis].power_on();
         Ok(())
     }
@@ -66,9 +50,7 @@ impl<D: Drive> Segment for Bank<D> {
         ensures meant { PoweredOff (row_of D.Drive.seen self.old) axis result (row_of D.Drive.seen self.new) }
         ensures exact { ObeyedOrNot D.Drive.obeys power_off axis self.old result self.new }
     {
-        if axis >= self.count {
-            return Err(Refusal::new(Reason::NoSuchAxis));
-        }
+        self.there(axis)?;
         self.drives[axis].power_off();
         Ok(())
     }
@@ -77,8 +59,8 @@ impl<D: Drive> Segment for Bank<D> {
         ensures meant { Followed (row_of D.Drive.seen self.old) axis position result (row_of D.Drive.seen self.new) }
         ensures exact { ObeyedOrNot D.Drive.obeys (follow_to position) axis self.old result self.new }
     {
-        let look = self.look_at(axis)?;
-        ready(look, position)?;
+        let look = self.look(axis)?;
+        look.ready(position)?;
         self.drives[axis].follow(position);
         Ok(())
     }
@@ -87,10 +69,8 @@ impl<D: Drive> Segment for Bank<D> {
         ensures meant { Tripped (row_of D.Drive.seen self.old) axis code result (row_of D.Drive.seen self.new) }
         ensures exact { ObeyedOrNot D.Drive.obeys (trip_with code) axis self.old result self.new }
     {
-        if axis >= self.count {
-            return Err(Refusal::new(Reason::NoSuchAxis));
-        }
-        if code < 1 || code > 15 {
+        self.there(axis)?;
+        if !(1..=MAX_TRIP_CODE).contains(&code) {
             return Err(Refusal::new(Reason::TripCode));
         }
         self.drives[axis].trip(code);
@@ -101,9 +81,7 @@ impl<D: Drive> Segment for Bank<D> {
         ensures meant { Cleared (row_of D.Drive.seen self.old) axis result (row_of D.Drive.seen self.new) }
         ensures exact { ObeyedOrNot D.Drive.obeys clear_it axis self.old result self.new }
     {
-        if axis >= self.count {
-            return Err(Refusal::new(Reason::NoSuchAxis));
-        }
+        self.there(axis)?;
         self.drives[axis].clear();
         Ok(())
     }
@@ -112,8 +90,8 @@ impl<D: Drive> Segment for Bank<D> {
         ensures meant { Cycled (row_of D.Drive.seen self.old) (row_of D.Drive.seen self.new) }
         ensures exact { AllCycled D.Drive.obeys self.old self.new }
     {
-        for i in 0..self.count {
-            self.drives[i].cycle();
+        for drive in self.drives[..self.count].iter_mut() {
+            drive.cycle();
         }
     }
 }

@@ -17,10 +17,8 @@ impl Drive for VirtualAxis {
     }
 
     fn power_on(&mut self) {
-        if self.look.fault == 0 {
-            if let Power::Off = self.look.power {
-                self.look.power = Power::Coming;
-            }
+        if self.look.fault == 0 && self.look.power == Power::Off {
+            self.look.power = Power::Coming;
         }
     }
 

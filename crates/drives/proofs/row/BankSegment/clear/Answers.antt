@@ -7,6 +7,6 @@ use Rattle.drives.proofs.row.BankSegment.clear.Goals as goal
 pub returns : goal.returns
 returns g c = record {
   meant =
-      (search rules, shown_changed _ _ _ (omega arith) cleared _ _ _ c.if-axis-self.false c.clear.ensures.shows);
+      (search rules, shown_changed _ _ _ (omega arith) cleared _ _ _ c.in_ok-there.ensures c.clear.ensures.shows);
   exact = obeyed_set g.D.Drive.obeys clear_it c.args.axis _ _ _ (omega arith) c.clear.ensures.exact;
 }

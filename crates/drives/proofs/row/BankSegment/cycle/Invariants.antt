@@ -1,9 +1,6 @@
-use Rattle.std.proofs.Common.{◌≡◌}
 use Rattle.drives.proofs.Rows.{Gone, Turned}
 use Rattle.drives.proofs.row.BankSegment.cycle.Given as goal
 
--- the drives below i have cycled, and the others are as they were
-abbrev pub invariant-loop-i : goal.invariant-loop-i
-invariant-loop-i g l =
-    (l.self.count ≡ l.initial.self.count) × Gone (Turned g.D.Drive.seen g.D.Drive.obeys)
-    l.initial.self.drives l.self.drives l.i
+-- the drives before the index have cycled, and the others are as they were
+abbrev pub invariant-loop-drive : goal.invariant-loop-drive
+invariant-loop-drive g l = Gone (Turned g.D.Drive.seen g.D.Drive.obeys) l.initial.drive-items l.drive-items l.drive-index

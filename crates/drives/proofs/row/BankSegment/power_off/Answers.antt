@@ -7,6 +7,6 @@ use Rattle.drives.proofs.row.BankSegment.power_off.Goals as goal
 pub returns : goal.returns
 returns g c = record {
   meant =
-      (search rules, shown_changed _ _ _ (omega arith) unpowered _ _ _ c.if-axis-self.false c.power_off.ensures.shows);
+      (search rules, shown_changed _ _ _ (omega arith) unpowered _ _ _ c.in_ok-there.ensures c.power_off.ensures.shows);
   exact = obeyed_set g.D.Drive.obeys power_off c.args.axis _ _ _ (omega arith) c.power_off.ensures.exact;
 }

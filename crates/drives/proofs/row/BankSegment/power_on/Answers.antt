@@ -7,6 +7,6 @@ use Rattle.drives.proofs.row.BankSegment.power_on.Goals as goal
 pub returns : goal.returns
 returns g c = record {
   meant =
-      (search rules, shown_changed _ _ _ (omega arith) powered _ _ _ c.if-axis-self.false c.power_on.ensures.shows);
+      (search rules, shown_changed _ _ _ (omega arith) powered _ _ _ c.in_ok-there.ensures c.power_on.ensures.shows);
   exact = obeyed_set g.D.Drive.obeys power_on c.args.axis _ _ _ (omega arith) c.power_on.ensures.exact;
 }

@@ -7,7 +7,7 @@ use Rattle.drives.proofs.row.BankSegment.trip.Goals as goal
 pub returns : goal.returns
 returns g c = record {
   meant =
-      (search rules, shown_changed _ _ _ (omega arith) (tripped c.args.code) _ _ _ c.if-axis-self.false c.trip.ensures.shows);
+      (search rules, shown_changed _ _ _ (omega arith) (tripped c.args.code) _ _ _ c.in_ok-there.ensures c.trip.ensures.shows);
   exact =
       obeyed_set g.D.Drive.obeys (trip_with c.args.code) c.args.axis _ _ _ (omega arith)
       c.trip.ensures.exact;
