@@ -1,7 +1,7 @@
 //! A trail's memory, its file and its totals.
 use records::Refusal;
 use std::test::Fail;
-use totals::totals_of;
+use totals::{Totals, totals_of};
 use trail::{Full, Trail};
 use trail_file::{from_bytes, to_bytes};
 
@@ -55,4 +55,9 @@ fn totals_tell_ends_by_outcome_and_what_is_open(rt: HostRuntime) -> Result<(), F
     let text = format!(in rt.alloc(); "{totals}")?;
     assert!(rt; text.as_str() == "accepted 4\ndone 2\naborted 1\nerror 1\nopen 1\n");
     Ok(())
+}
+
+#[test]
+fn a_trail_without_words_has_nothing_to_book(rt: HostRuntime) {
+    assert_eq!(rt; totals_of(&[]), Ok(Totals::default()));
 }
