@@ -1,25 +1,25 @@
 -- What a follow below makes of the row that a mirror shows. Assumes nothing.
-use Rattle.std.proofs.Common.{◌≡◌, ℕ, Bool, true, false, cond, eqb, ltb, ℤ, neg_ℤ, Some, None, sym, refl, ap, ◌∙◌, arith}
+use Rattle.std.proofs.Common.{◌≡◌, ℕ, ◌/◌, ◌%◌, ◌^◌, ◌<◌, ◌≤◌, pow_mono, Bool, true, false, cond, eqb, ltb, ℤ, neg_ℤ, Some, None, sym, refl, ap, ◌∙◌, arith}
 use Rattle.std.proofs.lemmas.Int.{ints, clamps}
 use Rattle.std.proofs.lemmas.Bool.Decides.{nat_tests}
+use native.Mathlib.Nat.{div-eq_of_lt}
 use Rattle.segment.specs.declared.axis.AxisLook.{AxisLook}
 use Rattle.segment.specs.declared.axis.Power.{Power}
 use Rattle.segment.specs.declared.refusal.Reason.TheVariants.{NoSuchAxis, Faulted, OutOfRange}
-use Rattle.segment.specs.Row.{Row, Sound, SoundRow, changed}
+use Rattle.segment.specs.Row.{Row, Sound, SoundRow}
 use Rattle.segment.specs.Calls.{in_range, unless_on, ready_reason, follow_reason, followed}
-use Rattle.segment.proofs.Stages.{changed_mapped}
-use Rattle.stages.proofs.Alike.{ready_same}
 use Rattle.stages.specs.Mirrored.{in_mask, turned_round, turned_if, order_below, mirrored}
+use Rattle.stages.specs.View.{LeadsTo}
 
 -- the range, seen from both sides
 range_turned : (a : AxisLook) (p : ℤ) → Sound a → in_range (turned_round a) p ≡ in_range a (order_below true p)
 range_turned a p s = grind (arith, ints, clamps, nat_tests)
 
 ready_turned : (b : Bool) (a : AxisLook) (p : ℤ) → Sound a → ready_reason (turned_if b a) p ≡ ready_reason a (order_below b p)
-ready_turned true a p s = ready_same (turned_round a) a p (order_below true p) refl refl (range_turned a p s)
+ready_turned true a p s = let range = range_turned a p s in cc
 ready_turned false a p s = refl
 
-pub follow_reason_mirrored : (mask : ℕ) (row : Row) (axis : ℕ) (p q : ℤ) → SoundRow row → q ≡ order_below (in_mask mask axis) p
+follow_reason_mirrored : (mask : ℕ) (row : Row) (axis : ℕ) (p q : ℤ) → SoundRow row → q ≡ order_below (in_mask mask axis) p
     → follow_reason (mirrored mask row) axis p ≡ follow_reason row axis q
 follow_reason_mirrored mask row axis p q s e =
     ap (λ o. cond (ltb axis row.count) o (Some NoSuchAxis)) (ready_turned (in_mask mask axis) (row.at axis) p (s.each axis))
@@ -39,11 +39,20 @@ demand_turned true a p s fits = ap (λ z. followed z (turned_round a)) back
     back = grind (arith, ints, clamps, nat_tests)
 demand_turned false a p s fits = refl
 
-pub followed_mirrored : (mask : ℕ) (row : Row) (axis : ℕ) (p q : ℤ) → SoundRow row → q ≡ order_below (in_mask mask axis) p
-    → follow_reason row axis q ≡ None → mirrored mask (changed (followed q) row axis) ≡ changed (followed p) (mirrored mask row) axis
-followed_mirrored mask row axis p q s e ok =
-    changed_mapped (λ k. turned_if (in_mask mask k)) (followed q) (followed p) row axis
-    (rw e (demand_turned (in_mask mask axis) (row.at axis) p (s.each axis) (rw e at fits)))
+pub mirror_leads : (mask : ℕ) (row : Row) (axis : ℕ) (p q : ℤ) → SoundRow row → q ≡ order_below (in_mask mask axis) p
+    → LeadsTo (λ k. turned_if (in_mask mask k)) row axis p q
+mirror_leads mask row axis p q s e =
+    record {
+      reason = follow_reason_mirrored mask row axis p q s e;
+      seen = λ ok. rw e (demand_turned (in_mask mask axis) (row.at axis) p (s.each axis) (rw e at (fits ok)));
+    }
   where
-    fits : in_range (row.at axis) q ≡ true
-    fits = accepted (ltb axis row.count) (eqb (row.at axis).fault 0) _ (row.at axis).power ok
+    fits : follow_reason row axis q ≡ None → in_range (row.at axis) q ≡ true
+    fits ok = accepted (ltb axis row.count) (eqb (row.at axis).fault 0) _ (row.at axis).power ok
+
+-- a mask of eight bits has no axis past them
+pub past : (mask axis : ℕ) → mask < 2 ^ 8 → 8 ≤ axis → in_mask mask axis ≡ false
+past mask axis small far =
+    let larger : 2 ^ 8 ≤ 2 ^ axis = pow_mono far in
+    let none : mask / 2 ^ axis ≡ 0 = div-eq_of_lt (omega arith) in
+    ap (λ n. eqb (n % 2) 1) none

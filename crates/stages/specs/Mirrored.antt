@@ -1,10 +1,11 @@
 -- What a mirror shows of the row below it, and where it orders an axis below. Assumes nothing.
 use Rattle.std.specs.Prelude.{ℕ, ◌/◌, ◌%◌, ◌^◌, Bool, true, false, ℤ, negsuc, neg_ℤ, ◌==◌}
-use Rattle.std.proofs.Common.{arith}
+use Rattle.std.proofs.Common.{arith, rules}
 use Rattle.std.specs.Int.{int_max}
 use Rattle.std.proofs.lemmas.Int.{ints}
 use Rattle.segment.specs.declared.axis.AxisLook.{AxisLook}
 use Rattle.segment.specs.Row.{Row, Position, Sound, SoundRow, mapped}
+use Rattle.stages.specs.View.{KeepsCalls, seen_sound}
 
 -- the mask has the axis: the bit of its number is set
 abbrev pub in_mask : ℕ → ℕ → Bool
@@ -41,17 +42,21 @@ order_below false position = position
 position_negated : (p : ℤ) → Position p → Position (neg_ℤ p)
 position_negated p h = (omega (arith, ints), omega (arith, ints))
 
-turned_sound : (b : Bool) (a : AxisLook) → Sound a → Sound (turned_if b a)
-turned_sound true a s =
-    record {
-      demand = position_negated a.demand s.demand;
-      actual = position_negated a.actual s.actual;
-      low = position_negated a.high s.high;
-      high = position_negated a.low s.low;
-      fault = s.fault;
-      power = s.power;
-    }
+pub turned_sound : (turned : Bool) (a : AxisLook) → Sound a → Sound (turned_if turned a)
+turned_sound true a s = search (rules, position_negated)
 turned_sound false a s = s
 
 pub mirrored_sound : (mask : ℕ) (row : Row) → SoundRow row → SoundRow (mirrored mask row)
-mirrored_sound mask row s = record { some = s.some; few = s.few; each = λ k. turned_sound (in_mask mask k) (row.at k) (s.each k) }
+mirrored_sound mask = seen_sound (λ axis. turned_if (in_mask mask axis)) (λ axis. turned_sound (in_mask mask axis))
+
+-- ---- a mirror keeps every call but a follow
+
+pub turned_keeps_calls : (mask : ℕ) → KeepsCalls (λ axis. turned_if (in_mask mask axis))
+turned_keeps_calls mask =
+    record {
+      power_on = λ axis a. search rules;
+      power_off = λ axis a. search rules;
+      trip = λ axis code a. search rules;
+      clear = λ axis a. search rules;
+      cycle = λ axis before after c. search rules;
+    }

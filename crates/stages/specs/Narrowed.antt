@@ -1,14 +1,15 @@
 -- What soft limits show of the row below them, and what they refuse themselves. Assumes nothing.
-use Rattle.std.specs.Prelude.{◌≡◌, Bool, ◌||◌, ℤ, Some, Ok, Err, Option, Result, int_lt}
-use Rattle.std.proofs.Common.{arith}
+use Rattle.std.specs.Prelude.{◌≡◌, refl, Bool, ◌||◌, ℤ, Some, Ok, Err, Option, Result, int_lt}
+use Rattle.std.proofs.Common.{arith, rules}
 use Rattle.std.specs.Int.{int_max, int_min}
 use Rattle.std.proofs.lemmas.Int.{ints, clamps}
 use Rattle.segment.specs.declared.axis.AxisLook.{AxisLook}
 use Rattle.segment.specs.declared.refusal.Reason.{Reason}
 use Rattle.segment.specs.declared.refusal.Refusal.{Refusal}
 use Rattle.segment.specs.Calls.{ready_reason}
-use Rattle.segment.specs.Row.{Row, Position, Sound, SoundRow, mapped}
+use Rattle.segment.specs.Row.{Row, Sound, SoundRow, mapped}
 use Rattle.stages.specs.declared.limits.Limits.{Limits}
+use Rattle.stages.specs.View.{KeepsCalls, seen_sound}
 
 -- an axis with its low raised and its high lowered to the limits
 abbrev pub narrowed : Limits → AxisLook → AxisLook
@@ -42,22 +43,14 @@ Admitted limits a position (Err e) = OwnRefusal (ready_reason (narrowed limits a
 
 -- ---- soft limits over a sound row show a sound row
 
-position_max : (p q : ℤ) → Position p → Position q → Position (int_max p q)
-position_max p q h k = (omega (arith, ints, clamps), omega (arith, ints, clamps))
-
-position_min : (p q : ℤ) → Position p → Position q → Position (int_min p q)
-position_min p q h k = (omega (arith, ints, clamps), omega (arith, ints, clamps))
-
-axis_sound : (limits : Limits) (a : AxisLook) → Sound a → Sound (narrowed limits a)
-axis_sound limits a s =
-    record {
-      demand = s.demand;
-      actual = s.actual;
-      low = position_max a.low limits.low s.low limits.low_in;
-      high = position_min a.high limits.high s.high limits.high_in;
-      fault = s.fault;
-      power = s.power;
-    }
+pub axis_sound : (limits : Limits) (a : AxisLook) → Sound a → Sound (narrowed limits a)
+axis_sound limits a s = grind (arith, ints, clamps)
 
 pub narrowed_sound : (limits : Limits) (row : Row) → SoundRow row → SoundRow (narrowed_row limits row)
-narrowed_sound limits row s = record { some = s.some; few = s.few; each = λ k. axis_sound limits (row.at k) (s.each k) }
+narrowed_sound limits = seen_sound (λ _. narrowed limits) (λ _. axis_sound limits)
+
+-- ---- soft limits keep every call but a follow
+
+pub narrowed_keeps_calls : (limits : Limits) → KeepsCalls (λ _. narrowed limits)
+narrowed_keeps_calls limits =
+    record { power_on = λ _ _. refl; power_off = λ _ _. refl; trip = λ _ _ _. refl; clear = λ _ _. refl; cycle = λ _ before after c. search rules }

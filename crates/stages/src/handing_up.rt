@@ -9,8 +9,5 @@ pub(crate) fn up<X>(answer: Result<X, Refusal>) -> Result<X, Refusal>
     ensures handed { Handed answer result }
     ensures deeper { Deeper answer result }
 {
-    match answer {
-        Ok(value) => Ok(value),
-        Err(refusal) => Err(refusal.handed_up()),
-    }
+    answer.map_err(Refusal::handed_up)
 }

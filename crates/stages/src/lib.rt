@@ -1,12 +1,18 @@
-//! Two stages over any drive segment: a mirror and soft limits.
+//! Stages over any drive segment: a view of its axes makes one; the mirror and the soft limits are two.
 #![tactic(auto)]
 
 mod handing_up;
-mod limits;
+pub mod limits;
 pub mod mirror;
-pub mod mirror_segment;
+pub mod mirror_view;
 pub mod soft_limits;
-pub mod soft_limits_segment;
+pub mod soft_limits_view;
+pub mod stage;
+pub mod stage_segment;
+pub mod view;
 
-pub use mirror::Mirror;
+pub use limits::Limits;
+pub use mirror::{Mirror, TurnedAxes};
 pub use soft_limits::SoftLimits;
+pub use stage::Stage;
+pub use view::View;

@@ -1,9 +1,9 @@
 //! A pair of limits, as soft limits have it.
 ghost use Rattle.segment.specs.Row.{Position};
 
-// The lowest and the highest position that may be ordered; low above high leaves none.
+/// The lowest and the highest position that may be ordered; low above high leaves none.
 #[derive(Clone, Copy)]
-pub(crate) struct Limits {
+pub struct Limits {
     pub(crate) low: i32,
     pub(crate) high: i32,
     ghost low_in: { Position low },
