@@ -1,3 +1,2 @@
-pub mod Queue
-pub mod Reachable
-pub mod Sized
+mod Aims
+mod Ends

@@ -1,7 +1,7 @@
 -- What a block holds, and where its command leads. Assumes nothing.
-use Rattle.std.specs.Prelude.{ℕ, Bool, true, false, cond, ℤ, pos, ◌+ℤ◌, ◌-ℤ◌, Some, None, Option}
+use Rattle.std.specs.Prelude.{ℕ, Bool, true, false, ℤ, pos, ◌+ℤ◌, ◌-ℤ◌, Some, None, Ok, Err, Option, Result}
 use Rattle.segment.specs.declared.axis.AxisLook.{AxisLook}
-use Rattle.segment.specs.Calls.{in_range}
+use Rattle.segment.specs.Calls.{in_range_or_none}
 use Rattle.records.specs.declared.motion.AxisState.{AxisState}
 use Rattle.records.specs.declared.motion.AxisState.TheVariants.{Stopping, DiscreteMotion, ContinuousMotion}
 use Rattle.records.specs.declared.motion.BufferMode.{BufferMode}
@@ -9,8 +9,7 @@ use Rattle.records.specs.declared.motion.Command.{Command}
 use Rattle.records.specs.declared.motion.Command.TheVariants as command
 use Rattle.records.specs.declared.outcome.Outcome.{Outcome}
 use Rattle.records.specs.declared.outcome.Outcome.TheVariants as outcome
-use Rattle.moves.specs.declared.aim.Aim.{Aim}
-use Rattle.moves.specs.declared.aim.Aim.TheVariants.{Free, At, Outside}
+use Rattle.moves.specs.declared.aim.OutOfRange.{OutOfRange}
 use Rattle.moves.specs.declared.instruction.Instruction.{Instruction}
 use Rattle.moves.specs.declared.instruction.Instruction.TheVariants.{Absolute, Relative, Velocity, Halt, Stop}
 use Rattle.moves.specs.declared.table.Block.{Block}
@@ -120,18 +119,27 @@ stop_under (Some command.Velocity) b = None
 stop_under (Some command.Halt) b = None
 stop_under (Some command.Stop) b = Some b
 
+-- the target of a command, if it has one, unless it lies outside the axis's range
+abbrev pub Aim : Type 0
+Aim = Result (Option ℤ) OutOfRange
+
+-- a target that lies in the axis's range, or none that does
+abbrev pub aimed : Option ℤ → Aim
+aimed None = Err (record {})
+aimed (Some target) = Ok (Some target)
+
 -- a position as a target
 abbrev pub aimed_at : AxisLook → ℤ → Aim
-aimed_at look position = cond (in_range look position) (At position) Outside
+aimed_at look position = aimed (in_range_or_none look position)
 
 -- the target of a command that begins where the axis looks so: absolute the position, relative demand plus distance
 abbrev pub aim_of : Option Command → ℤ → AxisLook → Aim
-aim_of None value look = Free
+aim_of None value look = Ok None
 aim_of (Some command.Absolute) value look = aimed_at look value
 aim_of (Some command.Relative) value look = aimed_at look (look.demand +ℤ value)
-aim_of (Some command.Velocity) value look = Free
-aim_of (Some command.Halt) value look = Free
-aim_of (Some command.Stop) value look = Free
+aim_of (Some command.Velocity) value look = Ok None
+aim_of (Some command.Halt) value look = Ok None
+aim_of (Some command.Stop) value look = Ok None
 
 -- the target of a block's command
 abbrev pub block_aim : Block → AxisLook → Aim

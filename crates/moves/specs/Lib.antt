@@ -1,6 +1,6 @@
 pub mod Axes
 pub mod Blocks
+pub mod Kept
 pub mod Moves
-pub mod Reachable
 pub mod Sheet
-pub mod Sized
+pub mod Room

@@ -1,47 +1,43 @@
 //! A command comes.
-ghost use Rattle.std.specs.Prelude.{◌≡◌, ◌+◌, ◌<◌, ◌≤◌, true, length};
+ghost use Rattle.std.specs.Prelude.{◌≡◌, true};
 ghost use Rattle.moves.specs.Blocks.{command_of};
 ghost use Rattle.moves.specs.Moves.{accepted};
+ghost use Rattle.moves.specs.Room.{Takes, Wrote};
 ghost use Rattle.moves.specs.Sheet.{sheet};
-ghost use Rattle.moves.specs.Sized.{Sized};
-ghost use Rattle.trail.specs.Held.{held_words, held_room};
 ghost use Rattle.words.specs.Words.{may_be};
 
-use crate::commands::{block_of, command_of};
 use crate::instruction::Instruction;
-use crate::table::Table;
+use crate::numbers::{AxisNumber, BlockNumber};
+use crate::table::{Block, Table};
 use crate::telling::tell;
 use records::{BufferMode, Record};
 use trail::Trail;
 
-/// A block takes a command for an axis: it waits.
-pub fn accept(
-    table: &mut Table,
-    trail: &mut Trail,
-    axis: u8,
-    block: u8,
-    instruction: Instruction,
-    mode: BufferMode,
-)
-    requires axis { axis < 8 }
-    requires block { block < 32 }
-    requires mode { may_be (command_of instruction) mode ≡ true }
-    requires room { length (held_words trail.old) + 1 ≤ held_room trail.old }
-    requires sized { Sized table.old }
-    ensures sheet { sheet table.new trail.new ≡ accepted (sheet table.old trail.old) axis block instruction mode }
-    ensures used { length (held_words trail.new) ≤ length (held_words trail.old) + 1 }
-    ensures room { held_room trail.new ≡ held_room trail.old }
-    ensures sized { Sized table.new }
-{
-    table.blocks[block as usize] = block_of(axis, instruction, mode);
-    let command = command_of(instruction);
-    tell(
-        trail,
-        Record::Accept {
-            axis,
-            block,
-            command,
-            mode,
-        },
-    );
+impl Table {
+    /// A block takes a command for an axis: it waits.
+    #[tactic(auto, unfolding(crate::specs::Moves::accepted))]
+    pub fn accept(
+        &mut self,
+        trail: &mut Trail,
+        axis: AxisNumber,
+        block: BlockNumber,
+        instruction: Instruction,
+        mode: BufferMode,
+    )
+        requires mode { may_be (command_of instruction) mode ≡ true }
+        requires room { Takes trail.old 1 }
+        ensures sheet { sheet self.new trail.new ≡ accepted (sheet self.old trail.old) axis block instruction mode }
+        ensures wrote { Wrote 1 trail.old trail.new }
+    {
+        self.blocks[block.index()] = Block::of(axis, instruction, mode);
+        tell(
+            trail,
+            Record::Accept {
+                axis: axis.into(),
+                block: block.into(),
+                command: instruction.command(),
+                mode,
+            },
+        );
+    }
 }

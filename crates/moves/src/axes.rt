@@ -1,77 +1,131 @@
 //! What an axis becomes when its commands come and go.
-ghost use Rattle.std.specs.Prelude.{◌≡◌};
-ghost use Rattle.moves.specs.Axes.{stop_in, with_state, halted_in, under_command};
+ghost use Rattle.std.specs.Prelude.{◌≡◌, ◌<◌, ◌≤◌, unsigned_abs};
+ghost use Rattle.moves.specs.Axes.{stop_in, with_state, with_request, with_motion, halted_in, under_command, joined};
 ghost use Rattle.moves.specs.Axes.{without_active, without_commands};
+ghost use Rattle.moves.specs.Sheet.{disabled_axis};
+ghost use Rattle.std.specs.Prelude.{replicate};
 
 use crate::commands::{state_under, stop_under};
-use crate::table::{Axis, MAX_WAITING};
+use crate::numbers::BlockNumber;
+use crate::queue::Queue;
+use crate::table::Axis;
+use ramp::Motion;
 use records::{AxisState, Command};
 
 // The block of a stop is remembered in the state stopping only.
-fn stop_in(state: AxisState, stop: Option<u8>) -> Option<u8>
+fn stop_in(state: AxisState, stop: Option<BlockNumber>) -> Option<BlockNumber>
     ensures { result ≡ stop_in state stop }
 {
-    match state {
-        AxisState::Stopping => stop,
-        AxisState::Disabled
-        | AxisState::Standstill
-        | AxisState::DiscreteMotion
-        | AxisState::ContinuousMotion
-        | AxisState::ErrorStop => None,
+    if state == AxisState::Stopping {
+        return stop;
     }
+    None
 }
 
-/// The axis in another state, which keeps the block of a stop in the state stopping only.
-pub fn with_state(mut axis: Axis, state: AxisState) -> Axis
-    ensures { result ≡ with_state axis state }
-{
-    axis.state = state;
-    axis.stop = stop_in(state, axis.stop);
-    axis
-}
+impl Axis {
+    /// The axis of a new sequencer: disabled, without a command.
+    pub fn disabled() -> Axis
+        ensures { result ≡ disabled_axis (replicate 4 0) }
+    {
+        Axis {
+            state: AxisState::Disabled,
+            velocity: 0,
+            distance_to_go: 0,
+            enable_requested: false,
+            active: None,
+            queue: Queue::new(),
+            stop: None,
+        }
+    }
 
-/// The axis in this state, with velocity and distance to go 0.
-pub fn halted_in(state: AxisState, mut axis: Axis) -> Axis
-    ensures { result ≡ halted_in state axis }
-{
-    axis.velocity = 0;
-    axis.distance_to_go = 0;
-    with_state(axis, state)
-}
+    /// The axis in another state, which keeps the block of a stop in the state stopping only.
+    pub fn with_state(mut self, state: AxisState) -> Axis
+        ensures { result ≡ with_state self state }
+    {
+        self.state = state;
+        self.stop = stop_in(state, self.stop);
+        self
+    }
 
-/// The axis under the command of a block: it keeps its velocity.
-pub fn under_command(
-    mut axis: Axis,
-    block: u8,
-    command: Option<Command>,
-    distance_to_go: i32,
-    queue: [u8; MAX_WAITING],
-    waiting: u8,
-) -> Axis
-    ensures { result ≡ under_command axis block command distance_to_go queue waiting }
-{
-    axis.state = state_under(command);
-    axis.distance_to_go = distance_to_go;
-    axis.active = Some(block);
-    axis.queue = queue;
-    axis.waiting = waiting;
-    axis.stop = stop_under(command, block);
-    axis
-}
+    /// The axis with power asked for, or not.
+    pub fn with_request(mut self, requested: bool) -> Axis
+        ensures { result ≡ with_request self requested }
+    {
+        self.enable_requested = requested;
+        self
+    }
 
-/// The axis with no command active.
-pub fn without_active(mut axis: Axis) -> Axis
-    ensures { result ≡ without_active axis }
-{
-    axis.active = None;
-    axis
-}
+    /// How the axis moves.
+    pub fn motion(self) -> Motion
+        ensures velocity { result.velocity ≡ self.velocity }
+        ensures distance { result.distance_to_go ≡ self.distance_to_go }
+    {
+        Motion {
+            distance_to_go: self.distance_to_go,
+            velocity: self.velocity,
+        }
+    }
 
-/// The axis with no command active and none waiting.
-pub fn without_commands(mut axis: Axis) -> Axis
-    ensures { result ≡ without_commands axis }
-{
-    axis.active = None;
-    axis.waiting = 0;
-    axis
+    /// The axis with another motion.
+    pub fn with_motion(mut self, motion: Motion) -> Axis
+        ensures { result ≡ with_motion self motion.velocity motion.distance_to_go }
+    {
+        self.velocity = motion.velocity;
+        self.distance_to_go = motion.distance_to_go;
+        self
+    }
+
+    /// The axis in this state, with velocity and distance to go 0.
+    pub fn halted_in(mut self, state: AxisState) -> Axis
+        ensures { result ≡ halted_in state self }
+    {
+        self.velocity = 0;
+        self.distance_to_go = 0;
+        self.with_state(state)
+    }
+
+    // The axis under the command of a block, with this queue behind it: it keeps its velocity.
+    pub(crate) fn under(
+        mut self,
+        block: BlockNumber,
+        command: Option<Command>,
+        distance_to_go: i32,
+        queue: Queue,
+    ) -> Axis
+        requires { unsigned_abs distance_to_go ≤ 300000000 }
+        ensures { result ≡ under_command self block command distance_to_go queue.blocks queue.waiting }
+    {
+        self.state = state_under(command);
+        self.distance_to_go = distance_to_go;
+        self.active = Some(block);
+        self.queue = queue;
+        self.stop = stop_under(command, block);
+        self
+    }
+
+    // The axis with one command more that waits, behind the others.
+    pub(crate) fn joined(mut self, block: BlockNumber) -> Axis
+        requires { self.waiting < 4 }
+        ensures { result ≡ joined self block }
+    {
+        self.queue = self.queue.joined(block);
+        self
+    }
+
+    /// The axis with no command active.
+    pub fn without_active(mut self) -> Axis
+        ensures { result ≡ without_active self }
+    {
+        self.active = None;
+        self
+    }
+
+    /// The axis with no command active and none waiting.
+    pub fn without_commands(mut self) -> Axis
+        ensures { result ≡ without_commands self }
+    {
+        self.active = None;
+        self.queue = self.queue.cleared();
+        self
+    }
 }

@@ -1,81 +1,78 @@
 //! A command begins.
-ghost use Rattle.std.specs.Prelude.{◌≡◌, ℕ, ◌+◌, ◌<◌, ◌≤◌, true, length, slice_index};
+ghost use Rattle.std.specs.Prelude.{◌≡◌, ◌≤◌, unsigned_abs};
 ghost use Rattle.moves.specs.Blocks.{distance_to};
 ghost use Rattle.moves.specs.Moves.{begun, started};
-ghost use Rattle.moves.specs.Reachable.{Reachable};
+ghost use Rattle.moves.specs.Room.{Takes, Wrote};
 ghost use Rattle.moves.specs.Sheet.{sheet};
-ghost use Rattle.moves.specs.Sized.{Sized};
-ghost use Rattle.trail.specs.Held.{held_words, held_room};
-ghost use Rattle.words.specs.Words.{in_reach};
 
-use crate::axes::under_command;
-use crate::entering::enter;
-use crate::table::{MAX_WAITING, Status, Table};
+use crate::numbers::{AxisNumber, BlockNumber};
+use crate::place::Place;
+use crate::queue::Queue;
+use crate::table::{Status, Table};
 use crate::telling::tell;
 use records::Record;
 use trail::Trail;
 
-/// The command of a block begins, with its target if it has one.
-pub fn begin(table: &mut Table, trail: &mut Trail, axis: u8, block: u8, target: Option<i32>)
-    requires axis { axis < 8 }
-    requires block { block < 32 }
-    requires target { Reachable target }
-    requires room { length (held_words trail.old) + 2 ≤ held_room trail.old }
-    requires sized { Sized table.old }
-    ensures sheet { sheet table.new trail.new ≡ begun (sheet table.old trail.old) axis block target }
-    ensures used { length (held_words trail.new) ≤ length (held_words trail.old) + 2 }
-    ensures room { held_room trail.new ≡ held_room trail.old }
-    ensures sized { Sized table.new }
-    ensures axes { table.new.axes ≡ table.old.axes }
-{
-    let beginning = &mut table.blocks[block as usize];
-    beginning.status = Status::Active;
-    tell(trail, Record::Begin { axis, block });
-    if let Some(position) = target {
-        tell(trail, Record::Target { position });
-    }
-}
-
 // How far the target is from the demand; 0 without a target.
-fn distance_to(target: Option<i32>, demand: i32) -> i32
-    requires target { Reachable target }
-    requires demand { in_reach demand ≡ true }
-    ensures { result ≡ distance_to target demand }
+fn distance_to(target: &Option<Place>, demand: Place) -> i32
+    ensures distance { result ≡ distance_to target.now demand }
+    ensures near { unsigned_abs result ≤ 300000000 }
 {
     match target {
-        Some(position) => position - demand,
+        Some(place) => i32::from(*place) - i32::from(demand),
         None => 0,
     }
 }
 
-/// The command of a block begins and leads an axis from this demand, with these waiting behind it.
-pub fn start(
-    table: &mut Table,
-    trail: &mut Trail,
-    axis: u8,
-    block: u8,
-    target: Option<i32>,
-    demand: i32,
-    queue: [u8; MAX_WAITING],
-    waiting: u8,
-)
-    requires axis { axis < 8 }
-    requires block { block < 32 }
-    requires target { Reachable target }
-    requires demand { in_reach demand ≡ true }
-    requires queue { (k : ℕ) → slice_index queue k < 32 }
-    requires waiting { waiting ≤ 4 }
-    requires room { length (held_words trail.old) + 3 ≤ held_room trail.old }
-    requires sized { Sized table.old }
-    ensures sheet { sheet table.new trail.new ≡ started (sheet table.old trail.old) axis block target demand queue waiting }
-    ensures used { length (held_words trail.new) ≤ length (held_words trail.old) + 3 }
-    ensures room { held_room trail.new ≡ held_room trail.old }
-    ensures sized { Sized table.new }
-{
-    let old = table.axes[axis as usize];
-    let command = table.blocks[block as usize].command;
-    let distance = distance_to(target, demand);
-    let next = under_command(old, block, command, distance, queue, waiting);
-    begin(table, trail, axis, block, target);
-    enter(table, trail, axis, next);
+impl Table {
+    /// The command of a block begins, with its target if it has one.
+    #[tactic(auto, unfolding(crate::specs::Moves::begun))]
+    pub fn begin(
+        &mut self,
+        trail: &mut Trail,
+        axis: AxisNumber,
+        block: BlockNumber,
+        target: Option<Place>,
+    )
+        requires room { Takes trail.old 2 }
+        ensures sheet { sheet self.new trail.new ≡ begun (sheet self.old trail.old) axis block target }
+        ensures wrote { Wrote 2 trail.old trail.new }
+        ensures axes { self.new.axes ≡ self.old.axes }
+    {
+        let beginning = &mut self.blocks[block.index()];
+        beginning.status = Status::Active;
+        tell(
+            trail,
+            Record::Begin {
+                axis: axis.into(),
+                block: block.into(),
+            },
+        );
+        if let Some(place) = target {
+            let position = place.into();
+            tell(trail, Record::Target { position });
+        }
+    }
+
+    /// The command of a block begins and leads an axis from this demand, with this queue behind it.
+    #[tactic(auto, unfolding(crate::specs::Moves::started))]
+    pub fn start(
+        &mut self,
+        trail: &mut Trail,
+        axis: AxisNumber,
+        block: BlockNumber,
+        target: Option<Place>,
+        demand: Place,
+        queue: Queue,
+    )
+        requires room { Takes trail.old 3 }
+        ensures sheet { sheet self.new trail.new ≡ started (sheet self.old trail.old) axis block target demand queue.blocks queue.waiting }
+        ensures wrote { Wrote 3 trail.old trail.new }
+    {
+        let command = self.block(block).command;
+        let distance = distance_to(&target, demand);
+        let next = self.axis(axis).under(block, command, distance, queue);
+        self.begin(trail, axis, block, target);
+        self.enter(trail, axis, next);
+    }
 }

@@ -1,14 +1,14 @@
 //! The sequencer's table: its blocks, and what it keeps of each axis.
+use crate::numbers::{AxisNumber, BlockNumber};
+use crate::queue::Queue;
 use records::{AxisState, BufferMode, Cause, Command};
+use std::marker::Model;
 
 /// How many blocks there are.
 pub const MAX_BLOCKS: usize = 32;
 
 /// How many axes there can be.
 pub const MAX_AXES: usize = 8;
-
-/// How many commands can wait on an axis.
-pub const MAX_WAITING: usize = 4;
 
 /// Where a block's command stands.
 #[derive(Clone, Copy, PartialEq, Eq, Debug)]
@@ -35,7 +35,7 @@ pub enum Status {
 pub struct Block {
     pub status: Status,
     /// The axis that the command moves.
-    pub axis: u8,
+    pub axis: AxisNumber,
     /// The command; none in an idle block.
     pub command: Option<Command>,
     pub mode: BufferMode,
@@ -58,15 +58,30 @@ pub struct Axis {
     /// Whether power was asked for.
     pub enable_requested: bool,
     /// The block whose command is active; none in standstill, disabled and errorstop.
-    pub active: Option<u8>,
-    /// The blocks whose commands wait, the first to begin first: so many as `waiting` says.
-    pub queue: [u8; MAX_WAITING],
-    pub waiting: u8,
+    pub active: Option<BlockNumber>,
+    /// The blocks whose commands wait.
+    pub queue: Queue,
     /// The block whose stop brought the present state stopping; none in another state.
-    pub stop: Option<u8>,
+    pub stop: Option<BlockNumber>,
+}
+
+// No step of an axis leads out of the numbers.
+impl Model for Axis {
+    ghost use Rattle.ramp.specs.Near.{Near};
+    ghost use Rattle.moves.specs.Kept.{Kept};
+
+    ghost Value = { Kept };
+
+    ghost view = { λ y. record { state = y.state; velocity = y.velocity; distance_to_go = y.distance_to_go; enable_requested = y.enable_requested; active = y.active; queue = y.queue.blocks; waiting = y.queue.waiting; stop = y.stop } };
+
+    ghost invariant = { λ y. Near y.distance_to_go y.velocity };
+
+    ghost inverse = { λ y. record { state = y.state; velocity = y.velocity; distance_to_go = y.distance_to_go; enable_requested = y.enable_requested; active = y.active; queue = record { blocks = y.queue; waiting = y.waiting }; stop = y.stop } };
 }
 
 /// Blocks, axes, and the count of cycles modulo 2^28.
+// Fixed memory: the machine has just so many blocks and axes, and a cycle may not ask for memory. The trail is no part of it: the
+// caller owns it and lends it to each call. Held by a reference, it would put a clause on that reference into each contract.
 #[derive(Clone, Copy)]
 pub struct Table {
     pub blocks: [Block; MAX_BLOCKS],
