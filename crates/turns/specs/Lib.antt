@@ -1,3 +1,2 @@
-pub mod Reaches
 pub mod Steps
 pub mod Turns

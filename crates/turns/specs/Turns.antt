@@ -1,22 +1,20 @@
 -- What an axis does after the segment's cycle: the first case that applies. Assumes nothing.
-use Rattle.std.specs.Prelude.{ℕ, Bool, true, false, cond, not, ◌&&◌, ◌||◌, ℤ, pos, Some, None, Option, ◌==◌, int_le, nat_lt, slice_index}
+use Rattle.std.specs.Prelude.{ℕ, Bool, true, false, cond, not, ◌&&◌, ◌||◌, ℤ, pos, Some, None, Ok, Err, Option, Result, ◌==◌, int_le, nat_lt, slice_index}
 use Rattle.segment.specs.declared.axis.AxisLook.{AxisLook}
 use Rattle.segment.specs.declared.axis.Power.{Power}
 use Rattle.segment.specs.declared.axis.Power.TheVariants.{Off, Coming, On}
 use Rattle.records.specs.declared.outcome.Cause.{Cause}
 use Rattle.records.specs.declared.outcome.Cause.TheVariants.{Drive}
-use Rattle.moves.specs.declared.aim.Aim.{Aim}
-use Rattle.moves.specs.declared.aim.Aim.TheVariants.{Free, At, Outside}
+use Rattle.moves.specs.declared.aim.OutOfRange.{OutOfRange}
 use Rattle.moves.specs.declared.table.Axis.{Axis}
 use Rattle.moves.specs.declared.table.Block.{Block}
 use Rattle.moves.specs.declared.table.Table.{Table}
 use Rattle.moves.specs.Axes.{is_disabled, is_errorstop}
-use Rattle.moves.specs.Blocks.{is_move, is_run, block_aim}
+use Rattle.moves.specs.Blocks.{Aim, is_move, is_run, block_aim}
 use Rattle.moves.specs.Sheet.{idle_block, block_at}
 use Rattle.turns.specs.declared.turn.Turn.{Turn}
 use Rattle.turns.specs.declared.turn.Turn.TheVariants.{Rest, Fail, Enable, Finish, Yield}
-use Rattle.turns.specs.declared.turn.Next.{Next}
-use Rattle.turns.specs.declared.turn.Next.TheVariants.{Nothing, Begin, OutOfRange}
+use Rattle.turns.specs.declared.turn.Start.{Start}
 use Rattle.turns.specs.Steps.{goal_of}
 
 -- two numbers are equal
@@ -68,12 +66,15 @@ turn_of y x look refusal =
     cond (faults y look) (Fail (Drive look.fault))
     (turn_after refusal (cond (enables y look) Enable (turn_under y.active y x look)))
 
+-- what comes after a command that ended: nothing, or the start of another, unless its target is out of range
+abbrev pub Next : Type 0
+Next = Result (Option Start) OutOfRange
+
 -- the first that waits begins, unless its target is out of range
 abbrev pub next_by : ℕ → Aim → Next
-next_by b Free = Begin b None
-next_by b (At target) = Begin b (Some target)
-next_by b Outside = OutOfRange
+next_by b (Ok target) = Ok (Some (record { block = b; target = target }))
+next_by b (Err out) = Err out
 
 -- what comes after a command that ended, where x is the block of the first that waits
 unfoldable pub next_of : Axis → Block → AxisLook → Next
-next_of y x look = cond (y.waiting == 0) Nothing (next_by (slice_index y.queue 0) (block_aim x look))
+next_of y x look = cond (y.waiting == 0) (Ok None) (next_by (slice_index y.queue 0) (block_aim x look))

@@ -2,15 +2,13 @@
 #![tactic(auto)]
 
 pub mod beginning;
-pub mod blocks;
 pub mod deciding;
 pub mod rates;
 pub mod stepping;
 pub mod turn;
+pub mod under;
 
 pub use beginning::next_of;
-pub use blocks::{active_block, first_block};
-pub use deciding::{enables, faults, reached, turn_of, yields};
-pub use rates::{goal_of, held_rate, held_velocity};
-pub use stepping::{step, stepped};
-pub use turn::{Next, Turn};
+pub use rates::{held_rate, held_velocity};
+pub use turn::{Start, Turn};
+pub use under::Under;

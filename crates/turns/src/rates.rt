@@ -2,18 +2,17 @@
 ghost use Rattle.std.specs.Prelude.{◌≡◌, ◌≤◌, unsigned_abs};
 ghost use Rattle.turns.specs.Steps.{held_rate, held_velocity, goal_of};
 
-use moves::Block;
-use ramp::Rate;
-use records::Command;
+use crate::under::Under;
+use ramp::{Motion, Rate};
 
-/// The largest velocity either way, in increments per cycle.
-const FASTEST: i32 = 10_000;
+// The largest velocity either way, in increments per cycle.
+const FASTEST: i32 = Motion::FASTEST as i32;
 
 /// A rate, held to its limits.
 pub fn held_rate(increments: u32) -> Rate
     ensures { result.increments ≡ held_rate increments }
 {
-    let increments = increments.min(Rate::MOST).max(1);
+    let increments = increments.clamp(1, Rate::MOST);
     Rate { increments }
 }
 
@@ -25,13 +24,15 @@ pub fn held_velocity(velocity: i32) -> i32
     velocity.clamp(-FASTEST, FASTEST)
 }
 
-/// The velocity that the block's command leads to: that of a run, and else 0.
-pub fn goal_of(block: Block) -> i32
-    ensures goal { result ≡ goal_of block }
-    ensures limit { unsigned_abs result ≤ 10000 }
-{
-    match block.command {
-        Some(Command::Velocity) => held_velocity(block.value),
-        _ => 0,
+impl Under {
+    /// The velocity that the command leads to: that of a run, and else 0.
+    pub fn goal(&self) -> i32
+        ensures goal { result ≡ goal_of self.now.block }
+        ensures limit { unsigned_abs result ≤ 10000 }
+    {
+        if self.block.is_run() {
+            return held_velocity(self.block.value);
+        }
+        0
     }
 }

@@ -1,69 +1,64 @@
 //! How far an axis steps in a cycle.
-ghost use Rattle.std.specs.Prelude.{◌≡◌, ◌≤◌, true, false, pos, unsigned_abs};
-ghost use Rattle.ramp.specs.Near.{Near};
+ghost use Rattle.std.specs.Prelude.{◌≡◌, true, false};
 ghost use Rattle.moves.specs.Blocks.{is_move};
 ghost use Rattle.turns.specs.Steps.{step_of, remaining, stepped};
 
-use crate::rates::{goal_of, held_rate};
-use moves::{Axis, Block, is_move};
+use crate::rates::held_rate;
+use crate::under::Under;
+use moves::Axis;
 use ramp::{Motion, Ramp, velocity_step};
 
-// The step of a move, and the distance that then remains.
-fn move_step(axis: Axis, block: Block) -> (i32, i32)
-    requires moves { is_move block.command ≡ true }
-    requires near { Near axis.distance_to_go axis.velocity }
-    ensures step { result.0 ≡ step_of axis block }
-    ensures remaining { result.1 ≡ remaining axis block }
-    ensures near { Near result.1 result.0 }
-{
-    let motion = Motion {
-        distance_to_go: axis.distance_to_go,
-        velocity: axis.velocity,
-    };
-    let max_velocity = held_rate(block.max_velocity);
-    let max_acceleration = held_rate(block.max_acceleration);
-    motion.ramp_step(Ramp {
-        max_velocity,
-        max_acceleration,
-    })
-}
-
-// The step of a command that is no move: nothing remains to go.
-fn run_step(axis: Axis, block: Block) -> i32
-    requires runs { is_move block.command ≡ false }
-    requires near { Near axis.distance_to_go axis.velocity }
-    ensures step { result ≡ step_of axis block }
-    ensures near { Near (pos 0) result }
-{
-    velocity_step(
-        axis.velocity,
-        goal_of(block),
-        held_rate(block.max_acceleration),
-    )
-}
-
-/// The next step of the axis, and the distance that then remains; 0 where the command is no move.
-pub fn step(axis: Axis, block: Block) -> (i32, i32)
-    requires near { Near axis.distance_to_go axis.velocity }
-    ensures step { result.0 ≡ step_of axis block }
-    ensures remaining { result.1 ≡ remaining axis block }
-    ensures near { Near result.1 result.0 }
-    ensures limit { unsigned_abs result.0 ≤ 10000 }
-{
-    if is_move(block.command) {
-        return move_step(axis, block);
+impl Under {
+    // The motion after the step of a move.
+    fn move_step(&self) -> Motion
+        requires moves { is_move self.now.block.command ≡ true }
+        ensures step { result.velocity ≡ step_of self.now.axis self.now.block }
+        ensures remaining { result.distance_to_go ≡ remaining self.now.axis self.now.block }
+    {
+        let max_velocity = held_rate(self.block.max_velocity);
+        let max_acceleration = held_rate(self.block.max_acceleration);
+        let motion = self.axis.motion();
+        let (velocity, distance_to_go) = motion.ramp_step(Ramp {
+            max_velocity,
+            max_acceleration,
+        });
+        Motion {
+            distance_to_go,
+            velocity,
+        }
     }
-    (run_step(axis, block), 0)
-}
 
-/// The axis after its step.
-pub fn stepped(mut axis: Axis, block: Block) -> Axis
-    requires near { Near axis.distance_to_go axis.velocity }
-    ensures stepped { result ≡ stepped axis block }
-    ensures near { Near result.distance_to_go result.velocity }
-{
-    let (velocity, distance_to_go) = step(axis, block);
-    axis.velocity = velocity;
-    axis.distance_to_go = distance_to_go;
-    axis
+    // The motion after the step of a command that is no move: nothing remains to go.
+    fn run_step(&self) -> Motion
+        requires runs { is_move self.now.block.command ≡ false }
+        ensures step { result.velocity ≡ step_of self.now.axis self.now.block }
+        ensures remaining { result.distance_to_go ≡ remaining self.now.axis self.now.block }
+    {
+        let max_acceleration = held_rate(self.block.max_acceleration);
+        let motion = self.axis.motion();
+        let velocity = velocity_step(motion.velocity, self.goal(), max_acceleration);
+        Motion {
+            distance_to_go: 0,
+            velocity,
+        }
+    }
+
+    /// The motion of the axis after its next step: its velocity is the step, and nothing remains to go where the
+    /// command is no move.
+    pub fn step(&self) -> Motion
+        ensures step { result.velocity ≡ step_of self.now.axis self.now.block }
+        ensures remaining { result.distance_to_go ≡ remaining self.now.axis self.now.block }
+    {
+        if self.block.is_move() {
+            return self.move_step();
+        }
+        self.run_step()
+    }
+
+    /// The axis after its step.
+    pub fn stepped(&self) -> Axis
+        ensures { result ≡ stepped self.now.axis self.now.block }
+    {
+        self.axis.with_motion(self.step())
+    }
 }

@@ -1,7 +1,9 @@
 //! What an axis does after the segment's cycle.
+use moves::{BlockNumber, Place};
 use records::Cause;
 
 /// The first case that applies to an axis.
+// An enum and no closure: it is decided before anything changes, and the definition names each case.
 #[derive(Clone, Copy)]
 pub enum Turn {
     /// Nothing changes.
@@ -15,21 +17,19 @@ pub enum Turn {
     Enable,
     /// The active command, of this block, is done.
     Finish {
-        block: u8,
+        block: BlockNumber,
     },
     /// The active command, of this block, runs at its velocity, and another one waits.
     Yield {
-        block: u8,
+        block: BlockNumber,
     },
 }
 
-/// What comes after a command that ended.
+/// How the next command begins.
 #[derive(Clone, Copy)]
-pub enum Next {
-    /// No command waits.
-    Nothing,
-    /// The command of this block begins, with its target if it has one.
-    Begin { block: u8, target: Option<i32> },
-    /// The target of the command that is to begin lies outside the axis's range.
-    OutOfRange,
+pub struct Start {
+    /// The block of the command.
+    pub block: BlockNumber,
+    /// Its target, if it has one.
+    pub target: Option<Place>,
 }

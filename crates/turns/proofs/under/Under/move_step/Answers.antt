@@ -5,7 +5,7 @@ use Rattle.moves.specs.declared.table.Axis.{Axis}
 use Rattle.moves.specs.declared.table.Block.{Block}
 use Rattle.moves.specs.Blocks.{is_move}
 use Rattle.turns.specs.Steps.{held_rate, step_of, remaining}
-use Rattle.turns.proofs.stepping.move_step.Goals as goal
+use Rattle.turns.proofs.under.Under.move_step.Goals as goal
 
 -- the step of a move is its ramp step
 step_of_move : (y : Axis) (x : Block) (top accel : ℕ) (s : ℤ) → is_move x.command ≡ true →
@@ -21,15 +21,18 @@ remaining_of_move y x s r moves e d = simp (moves, ← e) d
 
 pub returns : goal.returns
 returns c =
-    let y = c.args.axis in
-    let distance : SFits w32 y.distance_to_go = search rules in
-    let velocity : SFits w32 y.velocity = search rules in
-    let s = c.ramp_step.result.0 in
-    let ramped = simp to_z-of_z at c.ramp_step.ensures.step in
-    let less = simp to_z-of_z at c.ramp_step.ensures.remaining in
-    let step = step_of_move y c.args.block _ _ s c.requires.moves c.held_rate-max_velocity.ensures c.held_rate-max_acceleration.ensures ramped in
+    let y = c.args.self.now.axis in
+    let x = c.args.self.now.block in
+    let s = c.ramp_step-velocity.result.0 in
+    let fits : SFits w32 s = search rules in
+    let fits_too : SFits w32 c.ramp_step-velocity.result.1 = search rules in
+    let moves = c.requires.moves in
+    let top = c.held_rate-max_velocity.ensures in
+    let accel = c.held_rate-max_acceleration.ensures in
+    let ramped = simp (c.motion-motion.ensures.velocity, c.motion-motion.ensures.distance) at c.ramp_step-velocity.ensures.step in
+    let less = simp c.motion-motion.ensures.distance at c.ramp_step-velocity.ensures.remaining in
+    let step = step_of_move y x _ _ s moves top accel ramped in
     record {
-      step = step;
-      remaining = remaining_of_move y c.args.block s _ c.requires.moves step less;
-      near = c.ramp_step.ensures.near;
+      step = simp to_z-of_z step;
+      remaining = simp to_z-of_z (remaining_of_move y x s _ moves step less);
     }
