@@ -1,5 +1,5 @@
 pub mod Orders
 pub mod Refused
 pub mod Settles
-pub mod Turned
 pub mod Used
+pub mod Turned

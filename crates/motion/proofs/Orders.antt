@@ -1,20 +1,13 @@
 -- What the axes order, one after the other. Assumes nothing.
-use Rattle.std.proofs.Common.{◌≡◌, ℕ, ◌+◌, ◌<◌, ◌≤◌, ◌≢◌, List, length, get_or, set, replicate, ℤ, ◌+ℤ◌, nat_abs, Some, None, Option, sym, refl, ap, ◌∙◌, subst, inl, inr, add-one, arith, w32, SFits, rules, below_none, below_more}
-use lib.ListN.{get_or-replicate, length-replicate}
-use Rattle.std.proofs.lemmas.List.{get_or_past, get_or-set_same, get_or-set_other, set_past}
-use Rattle.std.proofs.lemmas.Bool.{cases_eq, cases_lt}
-use Rattle.ramp.specs.Near.{Near}
+use Rattle.std.proofs.Common.{◌≡◌, ℕ, ◌+◌, ◌<◌, ◌≤◌, ◌≢◌, List, length, get_or, set, ℤ, ◌+ℤ◌, nat_abs, Some, None, Option, sym, refl, ap, ◌∙◌, subst, add-one, arith, w32, SFits, rules, below_none, below_more}
+use Rattle.std.proofs.lemmas.List.{get_or-set_same, get_or-set_other}
 use Rattle.segment.specs.Calls.{follow_reason}
 use Rattle.segment.specs.Row.{Row, Position}
 use Rattle.records.specs.declared.outcome.Cause.{Cause}
 use Rattle.trail.specs.declared.memory.Trail.{Trail}
-use Rattle.moves.specs.declared.table.Axis.{Axis}
-use Rattle.moves.specs.declared.table.Block.{Block}
 use Rattle.moves.specs.declared.table.Table.{Table}
 use Rattle.moves.specs.Sheet.{axis_at, block_at, with_axis}
-use Rattle.moves.specs.Sized.{Sized, SizedAxis}
 use Rattle.turns.specs.Steps.{step_of, stepped}
-use Rattle.motion.specs.Causes.{LawfulNoted}
 use Rattle.motion.specs.Ordering.{ordered, ordered_under, ordered_upto, followed_unless, refusal_of, refusal_under, Noted, RefusedUpto}
 use Rattle.motion.specs.World.{World, world}
 
@@ -22,27 +15,7 @@ use Rattle.motion.specs.World.{World, world}
 pub sum_fits : (demand velocity : ℤ) → Position demand → nat_abs velocity ≤ 10000 → SFits w32 (demand +ℤ velocity)
 sum_fits demand velocity position slow = search rules
 
--- a step keeps an axis sized
-pub sized_stepped : {y next : Axis} (x : Block) →
-    next ≡ stepped y x → Near next.distance_to_go next.velocity → SizedAxis y → SizedAxis next
-sized_stepped x e near sized = record {
-  few = rw e sized.few;
-  active = rw e sized.active;
-  queued = λ k. rw e (sized.queued k);
-  near = near;
-}
-
 -- ---- one axis
-
-module _ (before : Row) (old : Table) (a : ℕ) (none : (axis_at old a).active ≡ None) (trail : Trail) where
-  pub ordered_nothing : world before old trail ≡ ordered (world before old trail) a
-  unfolding ordered
-  ordered_nothing = sym (ap (λ (o : Option ℕ). ordered_under o (world before old trail) a) none)
-
-  pub noted_nothing : Noted (refusal_of (world before old trail) a) None
-  unfolding refusal_of
-  noted_nothing =
-      subst (λ (o : Option ℕ). Noted (refusal_under o (world before old trail) a) None) (sym none) tt
 
 module _ (before : Row) (old : Table) (a b : ℕ) (position : ℤ) (active : (axis_at old a).active ≡ Some b)
     (goes : position ≡ (before.at a).demand +ℤ step_of (axis_at old a) (block_at old b)) where
@@ -84,30 +57,9 @@ refused_more w v refusals refusal n within e all noted =
     (λ k h. let ne : k ≢ n = omega arith in rw (get_or-set_other refusals n k refusal None ne) (all k h))
     (rw (get_or-set_same refusals n refusal None within) (subst (λ (x : World). Noted (refusal_of x n) refusal) e noted))
 
-pub lawful_none : (n a : ℕ) → LawfulNoted (get_or (replicate n None) a None)
-lawful_none n a =
-    elim (cases_lt a n) [
-      | inl within ↦ subst LawfulNoted (sym (get_or-replicate n a None None within)) tt
-      | inr past ↦ subst LawfulNoted (sym (get_or_past (replicate n None) a None (simp length-replicate past))) tt
-    ]
-
-pub lawful_more : (refusals : List (Option Cause)) (refusal : Option Cause) (n : ℕ) →
-    ((a : ℕ) → LawfulNoted (get_or refusals a None)) → LawfulNoted refusal →
-    (a : ℕ) → LawfulNoted (get_or (set refusals n refusal) a None)
-lawful_more refusals refusal n all here a =
-    elim (cases_lt n (length refusals)) [
-      | inr past ↦ rw (set_past refusals n refusal past) (all a)
-      | inl within ↦ elim (cases_eq a n) [
-        | inl e ↦ rw (e, get_or-set_same refusals n refusal None within) here
-        | inr ne ↦ rw (get_or-set_other refusals n a refusal None ne) (all a)
-      ]
-    ]
-
 -- the first n axes are ordered, and row, table and refusals are these
 pub record OrderedFirst (before after : Row) (old new : Table) (refusals : List (Option Cause)) (n : ℕ) : Type 0 where
   pub so_far : (trail : Trail) → world after new trail ≡ ordered_upto (world before old trail) n
   pub noted : (trail : Trail) → RefusedUpto (world before old trail) refusals n
-  pub causes : (a : ℕ) → LawfulNoted (get_or refusals a None)
   pub long : length refusals ≡ 8
-  pub sized : Sized new
   pub count : after.count ≡ before.count

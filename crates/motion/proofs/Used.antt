@@ -1,23 +1,18 @@
--- How many words a handing over writes. Assumes nothing.
-use Rattle.std.proofs.Common.{◌≡◌, ℕ, zero, suc, ◌+◌, ◌-◌, ◌≤◌, Bool, true, false, eqb, List, [], length, get_or, ℤ, Some, None, Option, ap, ◌∙◌, inl, inr, arith, length-append}
+-- How many words a failing axis writes. Assumes nothing.
+use Rattle.std.proofs.Common.{◌≡◌, ℕ, zero, suc, ◌+◌, ◌≤◌, Bool, true, false, eqb, List, [], length, get_or, ℤ, None, Option, ap, ◌∙◌, inl, inr, arith, length-append}
 use Rattle.std.proofs.lemmas.List.{get_or_past, get_or-set_same, set_past}
 use Rattle.std.proofs.lemmas.Bool.{cases_lt}
 use Rattle.records.specs.declared.motion.AxisState.{AxisState}
 use Rattle.records.specs.declared.motion.AxisState.TheVariants.{ErrorStop}
-use Rattle.records.specs.declared.outcome.Cause.TheVariants.{RangeAtBegin}
+use Rattle.records.specs.declared.outcome.Cause.{Cause}
 use Rattle.records.specs.declared.outcome.Outcome.{Outcome}
 use Rattle.records.specs.declared.outcome.Outcome.TheVariants.{Done, Error}
 use Rattle.records.specs.Numbers.{state_number}
 use Rattle.moves.specs.declared.table.Axis.{Axis}
 use Rattle.moves.specs.declared.table.Table.{Table}
-use Rattle.moves.specs.Axes.{with_state, rest_state, shifted, without_active, halted_in, under_command}
-use Rattle.moves.specs.Blocks.{distance_to}
-use Rattle.moves.specs.Moves.{ended, ended_upto, ended_active, emptied, entered, entered_if, quelled, begun, started, finished}
-use Rattle.moves.specs.Sheet.{Sheet, disabled_axis, axis_at, block_at, with_axis}
-use Rattle.turns.specs.declared.turn.Next.{Next}
-use Rattle.turns.specs.declared.turn.Next.TheVariants.{Nothing, Begin, OutOfRange}
-use Rattle.turns.specs.Turns.{next_of}
-use Rattle.motion.specs.Settling.{handed, handed_by}
+use Rattle.moves.specs.Axes.{without_active, halted_in}
+use Rattle.moves.specs.Moves.{ended, ended_upto, ended_active, emptied, entered, entered_if, quelled, finished}
+use Rattle.moves.specs.Sheet.{Sheet, disabled_axis, axis_at, with_axis}
 use Rattle.motion.specs.World.{World, axis_of, failed}
 
 entered_if_used : (same : Bool) (s : Sheet) (a : ℕ) (y : Axis) → length (entered_if same s a y).words ≤ length s.words + 1
@@ -63,32 +58,11 @@ quelled_used s a outcome state none =
       emptied_used s a outcome none,
     )
 
-begun_used : (s : Sheet) (a b : ℕ) (target : Option ℤ) → length (begun s a b target).words ≤ length s.words + 2
-unfolding begun
-begun_used s a b None = simp length-append (omega arith)
-begun_used s a b (Some target) = simp length-append (omega arith)
-
-started_used : (s : Sheet) (a b : ℕ) (target : Option ℤ) (demand : ℤ) (queue : List ℕ) (waiting : ℕ) →
-    length (started s a b target demand queue waiting).words ≤ length s.words + 3
-unfolding started
-started_used s a b target demand queue waiting =
-    let next = under_command (axis_at s.table a) b (block_at s.table b).command (distance_to target demand) queue waiting in
-    omega (arith, entered_used (begun s a b target) a next, begun_used s a b target)
-
-module _ (w : World) (a : ℕ) (none : (axis_of w a).active ≡ None) (few : (axis_of w a).waiting ≤ 4) where
-  by_used : (next : Next) → length (handed_by next w a).sheet.words ≤ length w.sheet.words + 5
-  unfolding failed
-  by_used Nothing =
-      omega (arith, entered_used w.sheet a (with_state (axis_of w a) (rest_state (axis_of w a).state)))
-  by_used (Begin b target) =
-      omega (arith, started_used w.sheet a b target (w.row.at a).demand (shifted (axis_of w a).queue) ((axis_of w a).waiting - 1))
-  by_used OutOfRange = omega (arith, quelled_used w.sheet a (Error RangeAtBegin) ErrorStop none)
-
-  -- an axis with no command active is handed over in five words
-  pub handed_used : length (handed w a).sheet.words ≤ length w.sheet.words + 5
-  unfolding handed
-  handed_used =
-      by_used (next_of (axis_of w a) (block_at w.sheet.table (get_or (axis_of w a).queue 0 0)) (w.row.at a))
+-- an axis with no command active fails in five words
+pub failed_used : (w : World) (a : ℕ) (cause : Cause) → (axis_of w a).active ≡ None → (axis_of w a).waiting ≤ 4 →
+    length (failed w a cause).sheet.words ≤ length w.sheet.words + 5
+unfolding failed
+failed_used w a cause none few = omega (arith, quelled_used w.sheet a (Error cause) ErrorStop none)
 
 -- ---- after a command that is done, none is active
 

@@ -1,5 +1,5 @@
 -- What each axis does after the segment's cycle. Assumes nothing.
-use Rattle.std.specs.Prelude.{ℕ, zero, suc, ◌-◌, List, None, Option, slice_index, slice_index_or}
+use Rattle.std.specs.Prelude.{ℕ, zero, suc, ◌-◌, List, Some, None, Ok, Err, Option, slice_index, slice_index_or}
 use Rattle.records.specs.declared.motion.AxisState.TheVariants.{Standstill}
 use Rattle.records.specs.declared.outcome.Cause.{Cause}
 use Rattle.records.specs.declared.outcome.Cause.TheVariants.{RangeAtBegin}
@@ -7,20 +7,18 @@ use Rattle.records.specs.declared.outcome.Outcome.TheVariants.{Aborted}
 use Rattle.moves.specs.Axes.{with_state, rest_state, shifted}
 use Rattle.moves.specs.Moves.{entered, started, finished, retired}
 use Rattle.moves.specs.Sheet.{block_at}
-use Rattle.turns.specs.declared.turn.Next.{Next}
-use Rattle.turns.specs.declared.turn.Next.TheVariants.{Nothing, Begin, OutOfRange}
 use Rattle.turns.specs.declared.turn.Turn.{Turn}
 use Rattle.turns.specs.declared.turn.Turn.TheVariants.{Rest, Fail, Enable, Finish, Yield}
-use Rattle.turns.specs.Turns.{active_block, turn_of, next_of}
+use Rattle.turns.specs.Turns.{Next, active_block, turn_of, next_of}
 use Rattle.motion.specs.World.{World, on_sheet, axis_of, failed}
 
 -- what comes after a command of the axis a that ended
 abbrev pub handed_by : Next → World → ℕ → World
-handed_by Nothing w a = on_sheet w (entered w.sheet a (with_state (axis_of w a) (rest_state (axis_of w a).state)))
-handed_by (Begin b target) w a =
+handed_by (Ok None) w a = on_sheet w (entered w.sheet a (with_state (axis_of w a) (rest_state (axis_of w a).state)))
+handed_by (Ok (Some start)) w a =
     on_sheet w
-    (started w.sheet a b target (w.row.at a).demand (shifted (axis_of w a).queue) ((axis_of w a).waiting - 1))
-handed_by OutOfRange w a = failed w a RangeAtBegin
+    (started w.sheet a start.block start.target (w.row.at a).demand (shifted (axis_of w a).queue) ((axis_of w a).waiting - 1))
+handed_by (Err out) w a = failed w a RangeAtBegin
 
 -- the first command that waits on the axis a begins, if one does
 unfoldable pub handed : World → ℕ → World

@@ -10,6 +10,7 @@ use Rattle.moves.specs.declared.table.Axis.{Axis}
 use Rattle.moves.specs.declared.table.Table.{Table}
 use Rattle.moves.specs.Moves.{quelled}
 use Rattle.moves.specs.Sheet.{Sheet, sheet, axis_at}
+use Rattle.motion.specs.declared.machine.Machine.{Machine}
 
 -- table and trail, and the segment's row
 pub record World : Type 0 where
@@ -19,6 +20,14 @@ pub record World : Type 0 where
 -- the world of a row, a table and a trail
 abbrev pub world : Row → Table → Trail → World
 world row table trail = record { sheet = sheet table trail; row = row }
+
+-- the world of a machine whose segment shows so, and a trail
+abbrev pub machine_world : {S : Type 0} → (S → Row) → Machine S → Trail → World
+machine_world shows machine trail = world (shows machine.segment) machine.table trail
+
+-- how many axes a machine has whose segment shows so
+abbrev pub axes_of : {S : Type 0} → (S → Row) → Machine S → ℕ
+axes_of shows machine = (shows machine.segment).count
 
 -- the world with another sheet
 abbrev pub on_sheet : World → Sheet → World

@@ -9,7 +9,7 @@ pub returns-in_err-follow : goal.returns-in_err-follow
 returns-in_err-follow g c =
     let fits : SFits w32 c.args.position = c.ranges.position in
     let p = err_from_is_err_and c.from_residual.result c.from_residual.ensures.1 in
-    let refused = simp to_z-of_z at c.in_err-follow.ensures in
+    let refused = simp (to_z-of_z, c.index.ensures.same) at c.in_err-follow.ensures in
     let refusal = c.in_err-follow.field-0.0 in
     let row = g.S.Segment.shows c.args.segment.now in
     let left = g.S.Segment.shows c.follow.new.self in
@@ -25,7 +25,7 @@ returns-in_err-follow g c =
 pub returns : goal.returns
 returns g c =
     let fits : SFits w32 c.args.position = c.ranges.position in
-    let followed = simp to_z-of_z at c.in_ok-follow.ensures in
+    let followed = simp (to_z-of_z, c.index.ensures.same) at c.in_ok-follow.ensures in
     let row = g.S.Segment.shows c.args.segment.now in
     let left = g.S.Segment.shows c.follow.new.self in
     record {
