@@ -1,3 +1,1 @@
-pub mod Cycles
-pub mod Passing
 pub mod Takes

@@ -8,11 +8,9 @@ use Rattle.records.specs.declared.motion.BufferMode.{BufferMode}
 use Rattle.records.specs.declared.outcome.Cause.{Cause}
 use Rattle.records.specs.declared.outcome.Cause.TheVariants.{Drive}
 use Rattle.records.specs.declared.outcome.Outcome.TheVariants.{Aborted}
-use Rattle.moves.specs.declared.aim.Aim.{Aim}
-use Rattle.moves.specs.declared.aim.Aim.TheVariants.{Free, At, Outside}
 use Rattle.moves.specs.declared.instruction.Instruction.{Instruction}
 use Rattle.moves.specs.Axes.{with_request, with_state, joined, is_errorstop, is_block}
-use Rattle.moves.specs.Blocks.{block_of, block_aim}
+use Rattle.moves.specs.Blocks.{Aim, block_of, block_aim}
 use Rattle.moves.specs.Moves.{accepted, emptied, quelled, entered, started, kept, ticked}
 use Rattle.moves.specs.Sheet.{Sheet, idle_block, block_at, axis_at, with_block, on_table}
 use Rattle.motion.specs.Ordering.{ordered_upto, RefusedUpto}
@@ -50,9 +48,8 @@ powered_off w a = record {
 
 -- the target of a command that begins at once
 abbrev pub target_of : Aim → Option ℤ
-target_of Free = None
-target_of (At target) = Some target
-target_of Outside = None
+target_of (Ok target) = target
+target_of (Err out) = None
 
 -- the command of the block b was accepted, and waits or begins at once: then the others end aborted
 abbrev pub taken_on : Bool → World → ℕ → ℕ → Aim → World

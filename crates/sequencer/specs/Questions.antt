@@ -1,5 +1,6 @@
 -- What the questions answer. Assumes nothing.
-use Rattle.std.specs.Prelude.{ℕ, Bool, true, false, cond, Some, None, Ok, Err, Option, Result, nat_le, nat_lt}
+use Rattle.std.specs.Prelude.{ℕ, ◌<◌, ◌≤◌, Bool, true, false, cond, Some, None, Ok, Err, Option, Result, nat_le, nat_lt}
+use Rattle.ramp.specs.Near.{Near}
 use Rattle.records.specs.declared.outcome.Cause.{Cause}
 use Rattle.segment.specs.Row.{Row}
 use Rattle.moves.specs.declared.table.Axis.{Axis}
@@ -38,3 +39,14 @@ axis_values y =
 -- what is answered of the axis a
 abbrev pub axis_answer : Row → Table → ℕ → Result AxisAnswer Refusal
 axis_answer row table a = cond (nat_le row.count a) (Err NoSuchAxis) (Ok (axis_values (axis_at table a)))
+
+-- the number of a block, if there is one
+abbrev pub NamesBlock : Option ℕ → Type 0
+NamesBlock None = Unit {0}
+NamesBlock (Some b) = b < 32
+
+-- what every answer of an axis keeps to: at most four wait, the active block has a number, and no step leads out of the numbers
+pub record AxisLimits (answer : AxisAnswer) : Type 0 where
+  pub few : answer.waiting ≤ 4
+  pub active : NamesBlock answer.active
+  pub near : Near answer.distance_to_go answer.velocity

@@ -1,45 +1,40 @@
 //! Limits of a command's values, and what an execute asks of its axis.
-ghost use Rattle.std.specs.Prelude.{◌≡◌, ◌+ℤ◌};
-ghost use Rattle.segment.specs.Calls.{in_range};
+ghost use Rattle.std.specs.Prelude.{◌≡◌};
 ghost use Rattle.sequencer.specs.Refusals.{is_rate, is_velocity, is_distance, is_aborting, is_lawful, waits, is_outside};
 
 use moves::{Axis, Instruction};
+use ramp::{Motion, Rate};
 use records::BufferMode;
 use segment::AxisLook;
 
-// The highest top speed, velocity and acceleration, in increments per cycle.
-const MAX_RATE: u32 = 10_000;
-
-const MAX_SPEED: i32 = 10_000;
-
 // The farthest position and the longest distance, in increments.
-const MAX_DISTANCE: i32 = 200_000_000;
+const MAX_DISTANCE: u32 = 200_000_000;
 
+// A top speed or an acceleration.
 fn is_rate(increments: u32) -> bool
     ensures { result ≡ is_rate increments }
 {
-    (1 <= increments) & (increments <= MAX_RATE)
+    (1 <= increments) & (increments <= Rate::MOST)
 }
 
+// Two functions of one comparison each: with the limit as an argument a caller could exchange the two.
 fn is_velocity(velocity: i32) -> bool
     ensures { result ≡ is_velocity velocity }
 {
-    (-MAX_SPEED <= velocity) & (velocity <= MAX_SPEED)
+    velocity.unsigned_abs() <= Motion::FASTEST
 }
 
+// A position or a distance.
 fn is_distance(increments: i32) -> bool
     ensures { result ≡ is_distance increments }
 {
-    (-MAX_DISTANCE <= increments) & (increments <= MAX_DISTANCE)
+    increments.unsigned_abs() <= MAX_DISTANCE
 }
 
 fn is_aborting(mode: BufferMode) -> bool
     ensures { result ≡ is_aborting mode }
 {
-    match mode {
-        BufferMode::Aborting => true,
-        BufferMode::Buffered => false,
-    }
+    mode == BufferMode::Aborting
 }
 
 // Whether each value is within its limits, and a stop is not buffered.
@@ -70,27 +65,7 @@ pub(crate) fn within_limits(instruction: Instruction, mode: BufferMode) -> bool
 pub(crate) fn waits(mode: BufferMode, axis: Axis) -> bool
     ensures { result ≡ waits mode axis }
 {
-    match mode {
-        BufferMode::Aborting => false,
-        BufferMode::Buffered => axis.active.is_some(),
-    }
-}
-
-// Whether the position lies in the axis's range.
-fn in_range(look: AxisLook, position: i32) -> bool
-    ensures { result ≡ in_range look position }
-{
-    (look.low <= position) & (position <= look.high)
-}
-
-// Whether demand plus a distance lies in the axis's range.
-fn in_range_by(look: AxisLook, distance: i32) -> bool
-    ensures { result ≡ in_range look (look.demand +ℤ distance) }
-{
-    match look.demand.checked_add(distance) {
-        Some(position) => in_range(look, position),
-        None => false,
-    }
+    (mode == BufferMode::Buffered) & axis.active.is_some()
 }
 
 // Whether the target is out of range: of an absolute, and of a relative that begins at once.
@@ -98,8 +73,8 @@ pub(crate) fn is_outside(instruction: Instruction, waits: bool, look: AxisLook) 
     ensures { result ≡ is_outside instruction waits look }
 {
     match instruction {
-        Instruction::Absolute { position, .. } => !in_range(look, position),
-        Instruction::Relative { distance, .. } => !waits & !in_range_by(look, distance),
+        Instruction::Absolute { position, .. } => !look.in_range(position),
+        Instruction::Relative { distance, .. } => !waits & look.position_by(distance).is_none(),
         Instruction::Velocity { .. } | Instruction::Halt { .. } | Instruction::Stop { .. } => false,
     }
 }

@@ -1,6 +1,4 @@
 //! The sequencer: a drive segment, and the table of its blocks and axes.
-ghost use Rattle.moves.specs.Sized.{Few, ActiveNamed, QueueNamed, AllNear};
-
 mod checks;
 pub mod cycling;
 pub mod executing;
@@ -11,15 +9,10 @@ pub mod releasing;
 pub mod resetting;
 pub mod tripping;
 
-use moves::Table;
+use motion::Machine;
 
 /// Commands in 32 blocks over a segment.
 #[derive(Drop)]
 pub struct Sequencer<S> {
-    pub(crate) segment: S,
-    pub(crate) table: Table,
-    ghost few: { Few table },
-    ghost active: { ActiveNamed table },
-    ghost queued: { QueueNamed table },
-    ghost near: { AllNear table },
+    pub(crate) machine: Machine<S>,
 }

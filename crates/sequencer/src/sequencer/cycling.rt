@@ -4,8 +4,6 @@ ghost use Rattle.sequencer.specs.Whole.{world_of};
 
 use super::Sequencer;
 use crate::refusal::Refusal;
-use motion::{order_all, settle_all};
-use moves::tick;
 use segment::Segment;
 use trail::Trail;
 
@@ -15,11 +13,11 @@ impl<S: Segment> Sequencer<S> {
         ensures { WasCycled (world_of S.Segment.shows self.old trail.old) result (world_of S.Segment.shows self.new trail.new) }
     {
         self.check_cycle(trail)?;
-        tick(&mut self.table, trail);
-        let count = self.segment.axes() as u8;
-        let refusals = order_all(&mut self.segment, &mut self.table, count);
-        self.segment.cycle();
-        settle_all(&mut self.segment, &mut self.table, trail, count, refusals);
+        self.machine.table.tick(trail);
+        let count = self.machine.segment.axes();
+        let refusals = self.machine.order_all(count);
+        self.machine.segment.cycle();
+        self.machine.settle_all(trail, count, refusals);
         Ok(())
     }
 }

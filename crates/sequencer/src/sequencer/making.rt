@@ -4,7 +4,8 @@ ghost use Rattle.moves.specs.Sheet.{new_table};
 ghost use Rattle.sequencer.specs.Whole.{segment_of, table_of};
 
 use super::Sequencer;
-use moves::new_table;
+use motion::Machine;
+use moves::Table;
 
 impl<S> Sequencer<S> {
     /// A sequencer over a segment: its blocks are idle, and its axes disabled.
@@ -12,14 +13,15 @@ impl<S> Sequencer<S> {
         ensures table { table_of result ≡ new_table }
         ensures segment { segment_of result ≡ segment }
     {
-        let table = new_table();
-        Sequencer { segment, table }
+        let table = Table::new();
+        let machine = Machine { segment, table };
+        Sequencer { machine }
     }
 
     /// The segment, for questions that only it can answer.
     pub fn segment(&self) -> &S
         ensures { result.now ≡ segment_of self.now }
     {
-        &self.segment
+        &self.machine.segment
     }
 }

@@ -4,31 +4,26 @@ ghost use Rattle.sequencer.specs.Whole.{world_of};
 
 use super::Sequencer;
 use crate::refusal::Refusal;
-use motion::{fail, look_at, trip};
-use moves::is_errorstop;
+use motion::{look_at, trip};
+use moves::Failure;
 use records::Cause;
 use segment::Segment;
 use trail::Trail;
 
 impl<S: Segment> Sequencer<S> {
     /// Sets a fault on an axis, unless it has one: its commands end in error, and it is in errorstop.
+    #[tactic(auto, unfolding(crate::specs::Calls::tripped_world))]
     pub fn trip(&mut self, trail: &mut Trail, axis: usize, code: u32) -> Result<(), Refusal>
         ensures { WasTripped (world_of S.Segment.shows self.old trail.old) axis code result (world_of S.Segment.shows self.new trail.new) }
     {
-        self.check_trip(trail, axis, code)?;
-        let axis = axis as u8;
-        trip(&mut self.segment, axis, code as u8);
-        if is_errorstop(self.table.axes[axis as usize].state) {
+        let axis = self.check_trip(trail, axis, code)?;
+        trip(&mut self.machine.segment, axis, code as u8);
+        if self.machine.table.axis(axis).is_errorstop() {
             return Ok(());
         }
-        let fault = look_at(&self.segment, axis).fault;
-        fail(
-            &mut self.segment,
-            &mut self.table,
-            trail,
-            axis,
-            Cause::Drive { fault },
-        );
+        let fault = look_at(&self.machine.segment, axis).fault;
+        let cause = Failure::of(Cause::Drive { fault });
+        self.machine.fail(trail, axis, cause);
         Ok(())
     }
 }
