@@ -1,7 +1,6 @@
 -- What ties the state words to the axes, and the steps that keep it. Assumes nothing.
-use Rattle.std.proofs.Common.{◌≡◌, ℕ, ◌<◌, false, List, [], ◌∷◌, length, get_or, set, replicate, sym, refl, ◌∙◌, subst, inl, inr, arith, length-set}
-use Rattle.std.proofs.lemmas.List.{get_or-set_same, get_or-set_other, get_or-replicate, get_or_past}
-use Rattle.std.proofs.lemmas.Bool.{ne_eqb, cases_eq, cases_lt}
+use Rattle.std.proofs.Common.{◌≡◌, ℕ, ◌<◌, false, List, [], ◌∷◌, length, get_or, set, replicate, sym, refl, ◌∙◌, length-set}
+use Rattle.std.proofs.lemmas.Bool.{ne_eqb}
 use Rattle.records.specs.declared.kinds.Record.{Record}
 use Rattle.records.specs.declared.kinds.Record.TheVariants.{State}
 use Rattle.moves.specs.declared.table.Axis.{Axis}
@@ -9,6 +8,7 @@ use Rattle.moves.specs.Sheet.{disabled_axis}
 use Rattle.law.specs.Laws.States.{Arrow, Chain}
 use Rattle.law.specs.Laws.States.Chain.{starts, other, goes}
 use Rattle.law.specs.Readings.{states}
+use Rattle.law.proofs.Lines.{each_axle, fresh_axle}
 
 -- each axis's state words lead to its state; past the last axis there are none
 pub record Chained (rs : List Record) (axs : List Axis) : Type 0 where
@@ -16,26 +16,7 @@ pub record Chained (rs : List Record) (axs : List Axis) : Type 0 where
   pub each : (a : ℕ) → Chain a rs (get_or axs a (disabled_axis [])).state
 
 pub chained_new : Chained [] (replicate 8 (disabled_axis (replicate 4 0)))
-chained_new = record {
-  size = refl;
-  each = λ a. elim (cases_lt a 8) [
-    | inl h ↦ subst (λ (y : Axis). Chain a [] y.state)
-        (sym (get_or-replicate 8 a (disabled_axis (replicate 4 0)) (disabled_axis []) h)) starts
-    | inr h ↦ subst (λ (y : Axis). Chain a [] y.state)
-        (sym (get_or_past (replicate 8 (disabled_axis (replicate 4 0))) a (disabled_axis []) h)) starts
-  ];
-}
-
--- one axis becomes another
-each_axis :
-    (P : ℕ → Axis → Type 0) (axs : List Axis) (a : ℕ) (y : Axis) → length axs ≡ 8 → a < 8 → P a y →
-    ((c : ℕ) → (c ≡ a → ⊥) → P c (get_or axs c (disabled_axis []))) → (c : ℕ) → P c (get_or (set axs a y) c (disabled_axis []))
-each_axis P axs a y size h here there c =
-    elim (cases_eq c a) [
-      | inl e ↦ subst (λ k. P k (get_or (set axs a y) k (disabled_axis []))) (sym e)
-          (subst (P a) (sym (get_or-set_same axs a y (disabled_axis []) (omega arith))) here)
-      | inr ne ↦ subst (P c) (sym (get_or-set_other axs a c y (disabled_axis []) ne)) (there c ne)
-    ]
+chained_new = record { size = refl; each = λ a. fresh_axle (λ y. Chain a [] y.state) starts starts a }
 
 module _ {rs : List Record} {axs : List Axis} (chained : Chained rs axs) where
   -- a record that is no state word
@@ -47,8 +28,7 @@ module _ {rs : List Record} {axs : List Axis} (chained : Chained rs axs) where
       (a : ℕ) (y : Axis) → a < 8 → y.state ≡ (get_or axs a (disabled_axis [])).state → Chained rs (set axs a y)
   chained_kept a y h same = record {
     size = length-set axs a y ∙ chained.size;
-    each = each_axis (λ c z. Chain c rs z.state) axs a y chained.size h
-        (subst (Chain a rs) (sym same) (chained.each a)) (λ c ne. chained.each c);
+    each = each_axle (λ c z. Chain c rs z.state) axs a y chained.size h (rw same (chained.each a)) (λ c ne. chained.each c);
   }
 
   -- an axis goes along an arrow, with its word
@@ -57,7 +37,7 @@ module _ {rs : List Record} {axs : List Axis} (chained : Chained rs axs) where
       Chained (State a (get_or axs a (disabled_axis [])).state y.state ∷ rs) (set axs a y)
   chained_entered a y h arrow = record {
     size = length-set axs a y ∙ chained.size;
-    each = each_axis (λ c z. Chain c (State a (get_or axs a (disabled_axis [])).state y.state ∷ rs) z.state)
+    each = each_axle (λ c z. Chain c (State a (get_or axs a (disabled_axis [])).state y.state ∷ rs) z.state)
         axs a y chained.size h (goes (chained.each a) arrow)
         (λ c ne. other (ne_eqb a c (λ e. ne (sym e))) (chained.each c));
   }

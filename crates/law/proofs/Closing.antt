@@ -1,13 +1,12 @@
 -- The turn of an axis ends: it rests in a state, or a command begins. Assumes nothing.
-use Rattle.std.proofs.Common.{◌≡◌, ℕ, ◌<◌, ◌≤◌, Bool, true, false, eqb, List, length, get_or, set, ℤ, ◌-ℤ◌, Some, None, Option, sym, refl, ap, ◌∙◌, subst, inl, inr, arith}
+use Rattle.std.proofs.Common.{◌≡◌, ℕ, ◌<◌, ◌≤◌, Bool, true, false, eqb, List, length, get_or, set, ℤ, Some, None, Option, sym, refl, ap, ◌∙◌, subst, inl, inr, arith}
 use Rattle.std.proofs.lemmas.List.{get_or-set_same, get_or-set_other}
 use Rattle.std.proofs.lemmas.Bool.{cases_eq}
 use Rattle.segment.specs.Row.{Row}
 use Rattle.records.specs.declared.kinds.Record.{Record}
 use Rattle.records.specs.declared.motion.AxisState.{AxisState}
-use Rattle.records.specs.declared.motion.AxisState.TheVariants.{Disabled, Standstill, Stopping, DiscreteMotion, ContinuousMotion, ErrorStop}
+use Rattle.records.specs.declared.motion.AxisState.TheVariants.{Stopping}
 use Rattle.records.specs.declared.motion.Command.{Command}
-use Rattle.records.specs.declared.motion.Command.TheVariants as command
 use Rattle.records.specs.declared.outcome.Outcome.{Outcome}
 use Rattle.records.specs.Numbers.{state_number}
 use Rattle.words.specs.Words.{lawful_outcome}
@@ -16,48 +15,32 @@ use Rattle.moves.specs.declared.table.Block.{Block}
 use Rattle.moves.specs.declared.table.Status.TheVariants.{Waiting, Active}
 use Rattle.moves.specs.Axes.{stop_in, halted_in, under_command}
 use Rattle.moves.specs.Blocks.{is_move, state_under, stop_under, distance_to, with_status}
-use Rattle.moves.specs.Moves.{entered_if, entered, begun, started, quelled, emptied}
+use Rattle.moves.specs.Moves.{entered, begun, started, quelled, emptied}
 use Rattle.moves.specs.Sheet.{Sheet, idle_block}
 use Rattle.law.specs.Laws.Accounts.{is_done}
 use Rattle.law.specs.Laws.States.{Arrow}
 use Rattle.law.specs.Readings.{LastTarget}
 use Rattle.law.proofs.Ends.{Adds, adds_then, adds_begin, adds_state, emptied_open, empty_records}
 use Rattle.law.proofs.Lines.{nth, axle, At, Line, Leaves, at_same, leaves_all, leaves_status, line_same, is_stop}
-use Rattle.law.proofs.Parts.{Rests, Fits, Aims, Open, Part, But, close_on}
-use Rattle.law.proofs.Told.{Told, told_entered, told_begun, begin_records, state_records, entry_records, Reachable}
+use Rattle.law.proofs.Parts.{Rests, Open, Part, But, close_on}
+use Rattle.law.proofs.Told.{told_entered, told_begun, begin_records, state_records, entry_records, Reachable}
 
 -- ---- an axis enters a state
 
 pub entered_axes : (s : Sheet) (a : ℕ) (y : Axis) → (entered s a y).table.axes ≡ set s.table.axes a y
 unfolding entered
-entered_axes s a y = by (eqb (state_number (axle s.table.axes a).state) (state_number y.state))
-  where
-    by : (same : Bool) → (entered_if same s a y).table.axes ≡ set s.table.axes a y
-    by true = refl
-    by false = refl
+entered_axes s a y = grind arith
 
 pub entered_blocks : (s : Sheet) (a : ℕ) (y : Axis) → (entered s a y).table.blocks ≡ s.table.blocks
 unfolding entered
-entered_blocks s a y = by (eqb (state_number (axle s.table.axes a).state) (state_number y.state))
-  where
-    by : (same : Bool) → (entered_if same s a y).table.blocks ≡ s.table.blocks
-    by true = refl
-    by false = refl
+entered_blocks s a y = grind arith
 
 pub stop_remembered : (state : AxisState) (stop : Option ℕ) (b : ℕ) → stop_in state stop ≡ Some b → state ≡ Stopping
-stop_remembered Disabled stop b e = absurd (let z : ◌≡◌ {A = ℕ} 0 1 = cc in omega arith)
-stop_remembered Standstill stop b e = absurd (let z : ◌≡◌ {A = ℕ} 0 1 = cc in omega arith)
-stop_remembered Stopping stop b e = refl
-stop_remembered DiscreteMotion stop b e = absurd (let z : ◌≡◌ {A = ℕ} 0 1 = cc in omega arith)
-stop_remembered ContinuousMotion stop b e = absurd (let z : ◌≡◌ {A = ℕ} 0 1 = cc in omega arith)
-stop_remembered ErrorStop stop b e = absurd (let z : ◌≡◌ {A = ℕ} 0 1 = cc in omega arith)
+stop_remembered state stop b e = grind arith
 
 -- an arrow is asked for only where the states differ
 abbrev pub Leads : AxisState → AxisState → Type 0
 Leads old new = eqb (state_number old) (state_number new) ≡ false → Arrow old new
-
-none_some : {P : Type 0} {o : Option ℕ} {b : ℕ} → o ≡ None → o ≡ Some b → P
-none_some e f = absurd (let z : ◌≡◌ {A = ℕ} 0 1 = cc in omega arith)
 
 -- an axis without an active command enters a state
 pub enter_rest :
@@ -71,17 +54,12 @@ enter_rest {a} {C} {n} {before} {rs} {s} {row} turn ha y none was queue waiting 
     let bs = s.table.blocks in
     let blocks = entered_blocks s a y in
     close_on turn (told_entered turn.told a y ha leads) y (entered_axes s a y) ha
-    (subst (Leaves a bs) (sym blocks) (leaves_all a bs))
-    (ap length queue ∙ turn.lines.queues a ha)
-    (subst (λ cs. Line cs a y) (sym blocks) (line_same y (none ∙ sym was) queue waiting (turn.lines.each a)))
+    (rw blocks (leaves_all a bs))
+    (rw queue (turn.lines.queues a ha))
+    (rw blocks (line_same y (cc) queue waiting (turn.lines.each a)))
     (adds_state a bs rs (eqb (state_number (axle s.table.axes a).state) (state_number y.state)) a (axle s.table.axes a).state y.state).targets
-    (record {
-      rests = λ e. rests;
-      under = λ b e. none_some none e;
-      alone = λ b e. none_some none e;
-      stop = stop;
-    })
-    after same (record { aimed = λ b e. none_some none e })
+    (record { rests = λ e. rests; under = λ b e. cc; alone = λ b e. cc; stop = stop })
+    after same (record { aimed = λ b e. cc })
 
 -- ---- all commands end, and the axis halts
 
@@ -101,7 +79,7 @@ module _ {a : ℕ} {C : ℕ → Type 0} {n : ℕ} {before : List ℕ} {rs : List
       enter_rest e.still ha (halted_in state y)
       (ap (λ (z : Axis). z.active) e.own) (ap (λ (z : Axis). z.active) e.own) refl refl rests
       (λ b. stop_remembered state _ b)
-      (subst (λ (z : Axis). Leads z.state state) (sym e.own) leads)
+      (rw e.own leads)
       after same
 
   pub quelled_adds : (state : AxisState) → Adds a s.table.blocks rs (quell_records state)
@@ -112,30 +90,19 @@ module _ {a : ℕ} {C : ℕ → Type 0} {n : ℕ} {before : List ℕ} {rs : List
   pub quelled_others : (state : AxisState) (d : ℕ) → (d ≡ a → ⊥) → axle (quelled s a o state).table.axes d ≡ axle s.table.axes d
   unfolding quelled
   quelled_others state d ne =
-      ap (λ axs. axle axs d) (entered_axes (emptied s a o) a _) ∙ get_or-set_other (emptied s a o).table.axes a d _ _ ne
-      ∙ (emptied_open turn ha o lawful undone).others d ne
+      rw (entered_axes (emptied s a o) a) (get_or-set_other (emptied s a o).table.axes a d _ _ ne ∙ (emptied_open turn ha o lawful undone).others d ne)
 
   pub quelled_leaves : (state : AxisState) → Leaves a s.table.blocks (quelled s a o state).table.blocks
   unfolding quelled
-  quelled_leaves state = subst (Leaves a s.table.blocks) (sym (entered_blocks (emptied s a o) a _)) (emptied_open turn ha o lawful undone).leaves
+  quelled_leaves state = rw (entered_blocks (emptied s a o) a) (emptied_open turn ha o lawful undone).leaves
 
 -- ---- a command begins
 
 stop_alone : (c : Option Command) (b : ℕ) → state_under c ≡ Stopping → stop_under c b ≡ Some b
-stop_alone None b e = absurd (let z : ◌≡◌ {A = ℕ} 0 1 = cc in omega arith)
-stop_alone (Some command.Absolute) b e = absurd (let z : ◌≡◌ {A = ℕ} 0 1 = cc in omega arith)
-stop_alone (Some command.Relative) b e = absurd (let z : ◌≡◌ {A = ℕ} 0 1 = cc in omega arith)
-stop_alone (Some command.Velocity) b e = absurd (let z : ◌≡◌ {A = ℕ} 0 1 = cc in omega arith)
-stop_alone (Some command.Halt) b e = absurd (let z : ◌≡◌ {A = ℕ} 0 1 = cc in omega arith)
-stop_alone (Some command.Stop) b e = refl
+stop_alone c b e = grind arith
 
 stop_stops : (c : Option Command) (b d : ℕ) → stop_under c b ≡ Some d → state_under c ≡ Stopping
-stop_stops None b d e = absurd (let z : ◌≡◌ {A = ℕ} 0 1 = cc in omega arith)
-stop_stops (Some command.Absolute) b d e = absurd (let z : ◌≡◌ {A = ℕ} 0 1 = cc in omega arith)
-stop_stops (Some command.Relative) b d e = absurd (let z : ◌≡◌ {A = ℕ} 0 1 = cc in omega arith)
-stop_stops (Some command.Velocity) b d e = absurd (let z : ◌≡◌ {A = ℕ} 0 1 = cc in omega arith)
-stop_stops (Some command.Halt) b d e = absurd (let z : ◌≡◌ {A = ℕ} 0 1 = cc in omega arith)
-stop_stops (Some command.Stop) b d e = refl
+stop_stops c b d e = grind arith
 
 -- those that wait behind a command that begins
 pub record Behind (bs : List Block) (a b : ℕ) (queue : List ℕ) (waiting : ℕ) : Type 0 where
@@ -176,10 +143,9 @@ module _ {a : ℕ} {C : ℕ → Type 0} {n : ℕ} {before : List ℕ} {rs : List
   unfolding x
   begun_line y e q w = line_same {y = record { state = y.state; velocity = y.velocity; distance_to_go = y.distance_to_go; enable_requested = y.enable_requested; active = Some b; queue = queue; waiting = waiting; stop = y.stop }} y e q w (record {
     running = λ c i.
-        let same : b ≡ c = cc in
-        subst (λ k. At cs k a Active) same (record { within = at.within; stands = ap (λ (z : Block). z.status) here; axis = ap (λ (z : Block). z.axis) here ∙ at.axis });
+        let same : c ≡ b = cc in rw same (record { within = at.within; stands = cc here; axis = cc here });
     waiting = λ k h. at_same cs (there _ (behind.others k h)) (behind.waits k h);
-    gentle = λ k h. ap (λ (z : Block). is_stop z.command) (there _ (behind.others k h)) ∙ behind.gentle k h;
+    gentle = λ k h. rw (there _ (behind.others k h)) (behind.gentle k h);
     apart = behind.apart;
     only = λ c z. elim (cases_eq c b) [
       | inl i ↦ ap Some (sym i)
@@ -204,7 +170,7 @@ module _ {a : ℕ} {C : ℕ → Type 0} {n : ℕ} {before : List ℕ} {rs : List
 
   started_leaves : Leaves a s.table.blocks cs
   unfolding cs x
-  started_leaves = leaves_status a b s.table.blocks Active (λ e. let z : ◌≡◌ {A = ℕ} 0 1 = cc in omega arith) (omega (arith, turn.told.good.size, at.within)) at.axis
+  started_leaves = leaves_status a b s.table.blocks Active (λ e. cc) (omega (arith, turn.told.good.size, at.within)) at.axis
 
   pub started_adds : (target : Option ℤ) → Adds a s.table.blocks rs (start_records target)
   started_adds target = adds_then (leaves_all a s.table.blocks) (adds_begin a s.table.blocks rs b target at.axis at.stands) (adds_state a s.table.blocks (begin_records a b target rs) _ a _ _)
@@ -212,12 +178,11 @@ module _ {a : ℕ} {C : ℕ → Type 0} {n : ℕ} {before : List ℕ} {rs : List
   pub started_others : (target : Option ℤ) (demand : ℤ) (d : ℕ) → (d ≡ a → ⊥) → axle (started s a b target demand queue waiting).table.axes d ≡ axle s.table.axes d
   unfolding started
   started_others target demand d ne =
-      ap (λ axs. axle axs d) (entered_axes (begun s a b target) a _) ∙ get_or-set_other (begun s a b target).table.axes a d _ _ ne
-      ∙ ap (λ axs. axle axs d) (begun_axes target)
+      rw (entered_axes (begun s a b target) a, begun_axes target) (get_or-set_other s.table.axes a d _ _ ne)
 
   pub started_left : (target : Option ℤ) (demand : ℤ) → Leaves a s.table.blocks (started s a b target demand queue waiting).table.blocks
   unfolding started
-  started_left target demand = subst (Leaves a s.table.blocks) (sym (entered_blocks (begun s a b target) a _ ∙ begun_blocks target)) started_leaves
+  started_left target demand = rw (entered_blocks (begun s a b target) a, begun_blocks target) started_leaves
 
   pub started_part :
       (target : Option ℤ) (demand : ℤ) → Reachable target → HasTarget (nth s.table.blocks b).command target →
@@ -231,29 +196,28 @@ module _ {a : ℕ} {C : ℕ → Type 0} {n : ℕ} {before : List ℕ} {rs : List
       let u = begun s a b target in
       let first = told_begun turn.told a b target ha at.within reach at.axis at.stands in
       let was = ap (λ axs. (axle axs a).state) (begun_axes target) in
-      let whole = told_entered first a y ha (subst (λ z. Leads z (state_under c)) (sym was) leads) in
+      let whole = told_entered first a y ha (rw was leads) in
       let blocks : (entered u a y).table.blocks ≡ cs = entered_blocks u a y ∙ begun_blocks target in
       let same_command : (nth cs b).command ≡ c = ap (λ (z : Block). z.command) here in
-      close_on turn (subst (λ z. Told n before (entry_records a z (state_under c) (begin_records a b target rs)) (entered u a y)) was whole) y
-      (entered_axes u a y ∙ ap (λ axs. set axs a y) (begun_axes target)) ha
-      (subst (Leaves a s.table.blocks) (sym blocks) started_leaves) behind.long
-      (subst (λ ds. Line ds a y) (sym blocks) (begun_line y refl refl refl))
+      close_on turn (rw was at whole) y
+      (rw (entered_axes u a y, begun_axes target)) ha
+      (rw blocks started_leaves) behind.long
+      (rw blocks (begun_line y refl refl refl))
       (started_adds target).targets
-      (subst (λ ds. Fits ds y) (sym blocks) (record {
-        rests = λ e. none_some e refl;
-        under = λ d e. let i : b ≡ d = cc in ap state_under (sym same_command) ∙ ap (λ k. state_under (nth cs k).command) i;
-        alone = λ d e f. let i : b ≡ d = cc in (alone f, stop_alone c b f ∙ ap Some i);
+      (rw blocks (record {
+        rests = λ e. cc;
+        under = λ d e. cc;
+        alone = λ d e f. let i = stop_alone c b f in (alone f, cc);
         stop = λ d e. stop_stops c b d e;
       }))
       row (λ d ne. refl)
-      (subst (λ ds. Aims (start_records target) ds y (row.at a)) (sym blocks) (record {
+      (rw blocks (record {
         aimed = λ d e move.
             let i : b ≡ d = cc in
-            let t = has (ap is_move (sym same_command) ∙ ap (λ k. is_move (nth cs k).command) i ∙ move) in
+            let t = has cc in
             record {
               target = t.0;
-              last = subst (λ k. LastTarget k (start_records target) t.0) i
-                  (subst (λ o. LastTarget b (start_records o) t.0) (sym t.1) (last_begun a b t.0 rs _ _ _));
-              way = ap (λ o. distance_to o demand) t.1 ∙ ap (λ p. t.0 -ℤ p) (sym same);
+              last = subst (λ k. LastTarget k (start_records target) t.0) i (rw t.1 (last_begun a b t.0 rs _ _ _));
+              way = rw (t.1, same);
             };
       }))

@@ -1,12 +1,9 @@
 -- A whole cycle keeps the law, and what it ends done has arrived. Assumes nothing.
-use Rattle.std.proofs.Common.{◌≡◌, ℕ, zero, suc, ◌<◌, ◌≤◌, Bool, true, false, cond, eqb, ltb, leb, List, ◌∷◌, get_or, ℤ, Some, None, Option, sym, refl, ap, ◌∙◌, subst, inl, inr, arith}
-use Rattle.std.proofs.lemmas.Bool.{cases_lt, lt-ltb, le-leb, and_from}
-use Rattle.segment.specs.declared.axis.Power.{Power}
-use Rattle.segment.specs.declared.axis.Power.TheVariants.{Off, Coming, On}
+use Rattle.std.proofs.Common.{◌≡◌, ℕ, zero, suc, ◌<◌, ◌≤◌, true, List, ◌∷◌, get_or, ℤ, Some, None, Option, sym, refl, ◌∙◌, subst, inl, inr, arith}
+use Rattle.std.proofs.lemmas.Bool.{cases_lt, le-leb}
 use Rattle.segment.specs.declared.refusal.Reason.{Reason}
-use Rattle.segment.specs.declared.refusal.Reason.TheVariants.{NoSuchAxis, Faulted, PowerNotOn, OutOfRange}
-use Rattle.segment.specs.Calls.{in_range, unless_on, follow_reason}
-use Rattle.segment.specs.Row.{Row, Sound, SoundRow}
+use Rattle.segment.specs.Calls.{follow_reason}
+use Rattle.segment.specs.Row.{Row, SoundRow}
 use Rattle.records.specs.declared.kinds.Record.{Record}
 use Rattle.records.specs.declared.kinds.Record.TheVariants.{Cycle}
 use Rattle.records.specs.declared.motion.Command.{Command}
@@ -21,7 +18,7 @@ use Rattle.motion.specs.Ordering.{next_position, ordered_upto, refusal_under, re
 use Rattle.motion.specs.Settling.{settled, settled_upto}
 use Rattle.motion.specs.World.{World, axis_of}
 use Rattle.sequencer.specs.Calls.{counted, ordered_all, CycleLeft}
-use Rattle.law.specs.Laws.Accounts.{Rounds, stage_by}
+use Rattle.law.specs.Laws.Accounts.{Rounds}
 use Rattle.law.specs.Laws.Accounts.Stage.{runs}
 use Rattle.law.specs.Laws.Arrivals.{done_ends, StandsAt, Arrives}
 use Rattle.law.specs.Readings.{LastAccept, LastTarget}
@@ -35,20 +32,8 @@ use Rattle.law.proofs.Turning.{Fair, Landed, settled_over}
 
 -- ---- why a follow is refused
 
-some_is : {X : Type 0} {P : Type 0} {x : X} → None ≡ Some x → P
-some_is e = absurd (let z : ◌≡◌ {A = ℕ} 0 1 = cc in omega arith)
-
 follow_reasons : (row : Row) (a : ℕ) (p : ℤ) (reason : Reason) → a < row.count → follow_reason row a p ≡ Some reason → refuses_follow reason ≡ true
-follow_reasons row a p reason there e = by (ltb a row.count) (eqb (row.at a).fault 0) (row.at a).power (in_range (row.at a) p) (lt-ltb a row.count there) e
-  where
-    by : (here calm : Bool) (power : Power) (range : Bool) → here ≡ true →
-        cond here (cond calm (unless_on power (cond range None (Some OutOfRange))) (Some Faulted)) (Some NoSuchAxis) ≡ Some reason → refuses_follow reason ≡ true
-    by false calm power range h e = absurd (let z : ◌≡◌ {A = ℕ} 0 1 = cc in omega arith)
-    by true false power range h e = let i : Faulted ≡ reason = cc in ap refuses_follow (sym i)
-    by true true Off range h e = let i : PowerNotOn ≡ reason = cc in ap refuses_follow (sym i)
-    by true true Coming range h e = let i : PowerNotOn ≡ reason = cc in ap refuses_follow (sym i)
-    by true true On true h e = some_is e
-    by true true On false h e = let i : OutOfRange ≡ reason = cc in ap refuses_follow (sym i)
+follow_reasons row a p reason there e = grind arith
 
 -- a refused follow has an active command and one of these reasons
 record Refused (w : World) (a : ℕ) (reason : Reason) : Type 0 where
@@ -60,17 +45,17 @@ unfolding refusal_of
 refused_tells w a reason there e = by (axis_of w a).active refl e
   where
     by : (o : Option ℕ) → (axis_of w a).active ≡ o → refusal_under o w a ≡ Some reason → Refused w a reason
-    by None i e = some_is e
+    by None i e = cc
     by (Some b) i e = record { active = (b, i); follows = follow_reasons w.row a (next_position w a b) reason there e }
 
 fair_noted : (w : World) (a : ℕ) (refusal : Option Cause) (y : Axis) → a < w.row.count → y.active ≡ (axis_of w a).active → Noted (refusal_of w a) refusal → Fair refusal y
-fair_noted w a refusal y there same noted cause e = by (refusal_of w a) refl (subst (Noted (refusal_of w a)) e noted)
+fair_noted w a refusal y there same noted cause e = by (refusal_of w a) refl (rw e at noted)
   where
     by : (o : Option Reason) → refusal_of w a ≡ o → Noted o (Some cause) → (lawful_cause cause ≡ true) × ((b : ℕ) × (y.active ≡ Some b))
     by None i h = absurd h
     by (Some reason) i h =
         let tells = refused_tells w a reason there i in (
-          ap lawful_cause h.2 ∙ and_from (leb h.0 15) (refuses_follow reason) (le-leb h.0 15 h.1) tells.follows,
+          rw (h.2, le-leb h.0 15 h.1) tells.follows,
           (tells.active.0, same ∙ tells.active.1),
         )
 
@@ -100,20 +85,19 @@ module _ {C : ℕ → Type 0} {n : ℕ} {before : List ℕ} {rs qs : List Record
   landed_round : Rounds b rs (runs m (nth v.sheet.table.blocks b).command)
   landed_round =
       let x = nth v.sheet.table.blocks b in
-      subst (λ k. Rounds b rs (runs k x.command)) landed_at.axis
-      (subst (λ k. Rounds b rs (stage_by k x.axis x.command)) landed_at.stands (p.told.good.rounds b landed_at.within))
+      rw (landed_at.stands, landed_at.axis) at (p.told.good.rounds b landed_at.within)
 
   landed_stands : (a : ℕ) (command : Command) → LastAccept b rs a command → is_move (Some command) ≡ true → (t : ℤ) × LastTarget b qs t × StandsAt (v.row.at a) t
   landed_stands a command last move =
       let same = last_of_runs landed_round last in
-      let got = landed.stands (ap is_move (sym same.1) ∙ move) in
+      let got = landed.stands (cc) in
       (got.0, got.1, subst (λ k. StandsAt (v.row.at k) got.0) (sym same.0) got.2)
 
 stands_seen : {t : ℤ} (row shown : Row) (a : ℕ) → Seen (shown.at a) (row.at a) → StandsAt (row.at a) t → StandsAt (shown.at a) t
-stands_seen row shown a seen stands = record { demand = sym seen.demand ∙ stands.demand; actual = sym seen.actual ∙ stands.actual }
+stands_seen row shown a seen stands = record { demand = cc; actual = cc }
 
 stands_on : {t : ℤ} (row shown : Row) (a : ℕ) → Seen (shown.at a) (row.at a) → StandsAt (shown.at a) t → StandsAt (row.at a) t
-stands_on row shown a seen stands = record { demand = seen.demand ∙ stands.demand; actual = seen.actual ∙ stands.actual }
+stands_on row shown a seen stands = record { demand = cc; actual = cc }
 
 module _ {n : ℕ} {before : List ℕ} {rs : List Record} (w : World) (count : ℕ) (refusals : List (Option Cause))
     (p : Part (Unhurt count refusals w.row) n before rs w.sheet w.row) (few : count ≤ 8) (sound : SoundRow w.row)
@@ -121,9 +105,9 @@ module _ {n : ℕ} {before : List ℕ} {rs : List Record} (w : World) (count : �
   settled_next : (m : ℕ) → m < count → (v : World) → SettledTo (Unhurt count refusals w.row) n before rs w m v → SettledTo (Unhurt count refusals w.row) n before rs w (suc m) (settled v m (get_or refusals m None))
   settled_next m lt v g =
       let row_same = g.rows m (omega arith) in
-      let over = settled_over v g.part m (omega arith) (subst Sound (sym row_same) (sound.each m)) (get_or refusals m None)
-      (subst (Fair (get_or refusals m None)) (sym (g.ahead m (omega arith))) (fair m lt))
-      (λ r f. g.part.aims m (λ _. (lt, r, ap (λ look. look.fault) (sym row_same) ∙ f))) in
+      let over = settled_over v g.part m (omega arith) (rw row_same (sound.each m)) (get_or refusals m None)
+      (rw (g.ahead m (omega arith)) (fair m lt))
+      (λ r f. g.part.aims m (λ _. (lt, r, cc))) in
       let u = settled v m (get_or refusals m None) in
       let part = over.part in
       record {
@@ -150,7 +134,7 @@ module _ {n : ℕ} {before : List ℕ} {rs : List Record} (w : World) (count : �
                 axis = omega (arith, over.leaves.axes b, (landed_at v m b g.part landed).axis);
                 stands = λ a command last move.
                     let got = landed_stands v m b g.part landed a command (over.accepts last) move in
-                    (got.0, got.1, stands_seen v.row w.row a (g.seen a) got.2);
+                    (got.0, got.1, stands_seen {t = got.0} v.row w.row a (g.seen a) got.2);
               }
         ];
         ahead = λ d h. over.others d (omega arith) ∙ g.ahead d (omega arith);
@@ -208,7 +192,7 @@ cycle_keeps {n} {before} {rs} w w' p few left =
     fair_noted (ordered_upto (counted w) d) d (get_or left.refusals d None) (axis_of u d) (omega (arith, h.count, lt)) (g.active d ∙ sym (h.active d)) (left.noted d lt) in
     let all = settled_to u count left.refusals part few left.sound fair count (omega arith) in
     let same : (settled_upto u left.refusals count).row.count ≡ count = all.count ∙ left.cycled.count ∙ g.count in
-    subst (CycleKeeps n before rs w) (sym left.left) (record {
+    rw left.left (record {
       records = all.records;
       part = record {
         told = all.part.told;

@@ -1,5 +1,5 @@
 -- The commands of an axis end. Assumes nothing.
-use Rattle.std.proofs.Common.{◌≡◌, ℕ, zero, suc, ◌<◌, Bool, true, false, ◌⊎◌, List, ◌∷◌, get_or, set, ℤ, Some, None, Option, sym, refl, ap, ◌∙◌, subst, inl, inr, zero-add, arith}
+use Rattle.std.proofs.Common.{◌≡◌, ℕ, zero, suc, ◌<◌, Bool, true, false, ◌⊎◌, List, ◌∷◌, get_or, set, ℤ, Some, None, Option, sym, refl, ap, ◌∙◌, inl, inr, zero-add, arith}
 use Rattle.std.proofs.lemmas.List.{get_or-set_same, get_or-set_other}
 use Rattle.std.proofs.lemmas.Bool.{ne_eqb}
 use Rattle.segment.specs.Row.{Row}
@@ -8,7 +8,6 @@ use Rattle.records.specs.declared.kinds.Record.TheVariants.{Begin, End}
 use Rattle.records.specs.declared.motion.AxisState.{AxisState}
 use Rattle.records.specs.declared.motion.Command.{Command}
 use Rattle.records.specs.declared.outcome.Outcome.{Outcome}
-use Rattle.records.specs.declared.outcome.Outcome.TheVariants as outcome
 use Rattle.words.specs.Words.{lawful_outcome}
 use Rattle.moves.specs.declared.table.Axis.{Axis}
 use Rattle.moves.specs.declared.table.Block.{Block}
@@ -64,7 +63,7 @@ adds_begin a bs rs b target e f = by target
   where
     first : Adds a bs rs (Begin a b ∷ rs)
     first = record {
-      targets = λ c ne t last. LastTarget.before (ne_eqb b c (λ i. ne (ap (λ k. (nth bs k).axis) (sym i) ∙ e) (ap (λ k. (nth bs k).status) (sym i) ∙ f))) last;
+      targets = λ c ne t last. LastTarget.before (ne_eqb b c (λ i. ne (cc) (cc))) last;
       accepts = λ last. accept_before refl last;
       dones = λ c. zero-add _;
     }
@@ -88,15 +87,11 @@ pub record Ran (a n : ℕ) (before : List ℕ) (rs : List Record) (s : Sheet) (q
 
 -- an ended command does not wait
 status_waits : (o : Outcome) → status_of o ≡ Waiting → ⊥
-status_waits outcome.Done e = let z : ◌≡◌ {A = ℕ} 0 1 = cc in omega arith
-status_waits outcome.Aborted e = let z : ◌≡◌ {A = ℕ} 0 1 = cc in omega arith
-status_waits (outcome.Error cause) e = let z : ◌≡◌ {A = ℕ} 0 1 = cc in omega arith
+status_waits o e = grind arith
 
 -- an ended command is not active
 status_ended : (o : Outcome) → status_of o ≡ Active → ⊥
-status_ended outcome.Done e = let z : ◌≡◌ {A = ℕ} 0 1 = cc in omega arith
-status_ended outcome.Aborted e = let z : ◌≡◌ {A = ℕ} 0 1 = cc in omega arith
-status_ended (outcome.Error cause) e = let z : ◌≡◌ {A = ℕ} 0 1 = cc in omega arith
+status_ended o e = grind arith
 
 module _ {n : ℕ} {before : List ℕ} {rs : List Record} {s : Sheet} (t : Told n before rs s) (a b : ℕ) (o : Outcome) (hb : b < 32) where
   -- the blocks that are active then were so, and are others
@@ -105,8 +100,7 @@ module _ {n : ℕ} {before : List ℕ} {rs : List Record} {s : Sheet} (t : Told 
   ended_active_ones {c} at =
       let bs = s.table.blocks in
       let x = with_status (nth bs b) (status_of o) in
-      let other : c ≡ b → ⊥ = λ e.
-      status_ended o (sym (ap (λ (z : Block). z.status) (get_or-set_same bs b x idle_block (omega (arith, t.good.size)))) ∙ ap (λ k. (nth (set bs b x) k).status) (sym e) ∙ at.stands) in
+      let other : c ≡ b → ⊥ = λ e. status_ended o (rw (e, get_or-set_same bs b x idle_block (omega (arith, t.good.size))) at at.stands) in
       (at_same bs (sym (get_or-set_other bs b c x idle_block other)) at, other)
 
   pub ended_other : (c : ℕ) → (c ≡ b → ⊥) → nth (ended s a b o).table.blocks c ≡ nth s.table.blocks c
@@ -130,7 +124,7 @@ pub ran_ended :
     {status : Status} → At s.table.blocks b a status → MayEnd status o → lawful_outcome o ≡ true → is_done o ≡ false →
     Ran a n before rs s (End a b o ∷ rs) (ended s a b o)
 ran_ended {rs = rs} {s = s} t a b o ha at may lawful undone = record {
-  tells = told_ended t a b o ha at.within lawful at.axis (subst (λ z. MayEnd z o) (sym at.stands) may);
+  tells = told_ended t a b o ha at.within lawful at.axis (rw at.stands may);
   leaves = ended_leaves t a b o at.within at.axis;
   axes = ended_axes t a b o at.within;
   adds = adds_end a s.table.blocks rs a b o undone;
@@ -199,7 +193,7 @@ unfolding ended_active
 first t a None o ha lawful undone running only = record {
   ran = ran_none t a;
   rest = λ c ne. refl;
-  none = λ {c} at. let e = only c at in let z : ◌≡◌ {A = ℕ} 0 1 = cc in omega arith;
+  none = λ {c} at. let e = only c at in cc;
 }
 first t a (Some b) o ha lawful undone running only =
     let at = running b refl in
@@ -208,8 +202,7 @@ first t a (Some b) o ha lawful undone running only =
       rest = λ c ne. ended_other t a b o at.within c (λ e. ne (ap Some (sym e)));
       none = λ {c} z.
           let old = ended_active_ones t a b o at.within z in
-          let e : Some b ≡ Some c = only c old.0 in
-          let i : b ≡ c = cc in old.1 (sym i);
+          let e = only c old.0 in old.1 cc;
     }
 
 -- ---- all commands of an axis end
@@ -249,8 +242,8 @@ emptied_open {a} {C} {n} {before} {rs} {s} {row} turn ha o lawful undone =
           (line_none v.table.blocks a (without_commands y) refl refl none) ran.adds.targets;
       adds = ran.adds;
       leaves = ran.leaves;
-      own = ap (λ axs. axle (set axs a (without_commands y)) a) ran.axes ∙ get_or-set_same s.table.axes a (without_commands y) _ (omega (arith, turn.lines.size));
+      own = rw ran.axes (get_or-set_same s.table.axes a (without_commands y) _ (omega (arith, turn.lines.size)));
       rest = λ c ne nq. all.rest c nq ∙ one.rest c ne;
       none = λ at. none _ at;
-      others = λ d ne. ap (λ axs. axle (set axs a (without_commands y)) d) ran.axes ∙ get_or-set_other s.table.axes a d (without_commands y) _ ne;
+      others = λ d ne. rw ran.axes (get_or-set_other s.table.axes a d (without_commands y) _ ne);
     }

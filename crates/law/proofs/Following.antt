@@ -1,13 +1,13 @@
 -- The axes follow, and the segment cycles: a move that was not refused leads to its target still. Assumes nothing.
-use Rattle.std.proofs.Common.{◌≡◌, ℕ, zero, suc, ◌<◌, ◌≤◌, true, eqb, List, [], get_or, set, ℤ, ◌+ℤ◌, ◌-ℤ◌, Some, None, Option, sym, refl, ap, ◌∙◌, subst, inl, inr, arith}
+use Rattle.std.proofs.Common.{◌≡◌, ℕ, zero, suc, ◌<◌, ◌≤◌, true, List, [], get_or, ℤ, ◌+ℤ◌, ◌-ℤ◌, Some, None, Option, sym, refl, ap, ◌∙◌, inl, inr, arith}
 use Rattle.std.proofs.lemmas.List.{get_or-set_same, get_or-set_other}
 use Rattle.std.proofs.lemmas.Int.{ints}
-use Rattle.std.proofs.lemmas.Bool.{cases_eq, cond-true, cond-false, eq-eqb, ne_eqb}
+use Rattle.std.proofs.lemmas.Bool.{cases_eq, cond-true}
 use Rattle.segment.specs.declared.axis.AxisLook.{AxisLook}
 use Rattle.segment.specs.declared.axis.Power.TheVariants.{On}
 use Rattle.segment.specs.declared.refusal.Reason.{Reason}
 use Rattle.segment.specs.Calls.{follow_reason, followed}
-use Rattle.segment.specs.Cycle.{AxisCycled, Cycled, DemandCycled}
+use Rattle.segment.specs.Cycle.{AxisCycled, Cycled}
 use Rattle.segment.specs.Row.{Row}
 use Rattle.segment.proofs.Ready.{ready}
 use Rattle.records.specs.declared.kinds.Record.{Record}
@@ -20,7 +20,7 @@ use Rattle.turns.specs.Steps.{step_of, stepped, remaining}
 use Rattle.motion.specs.Ordering.{next_position, followed_unless, ordered_under, ordered, ordered_upto, refusal_under, refusal_of, Noted, RefusedUpto}
 use Rattle.motion.specs.World.{World, axis_of}
 use Rattle.law.proofs.Lines.{nth, axle, Lines, leaves_all, line_same, lines_with, each_axle}
-use Rattle.law.proofs.Parts.{Rests, Fits, Aims, Part}
+use Rattle.law.proofs.Parts.{Fits, Aims, Part, aims_demand}
 use Rattle.law.proofs.Told.{Told, told_kept}
 
 -- an axis that followed without refusal: ready to, and on the way to its target
@@ -43,24 +43,21 @@ pub record OrderedTo (n : ℕ) (before : List ℕ) (rs : List Record) (w : World
 
 fits_same : {bs : List Block} {y : Axis} (z : Axis) → z.state ≡ y.state → z.active ≡ y.active → z.waiting ≡ y.waiting → z.stop ≡ y.stop → Fits bs y → Fits bs z
 fits_same z s a w t fits = record {
-  rests = λ e. subst Rests (sym s) (fits.rests (sym a ∙ e));
-  under = λ b e. s ∙ fits.under b (sym a ∙ e);
-  alone = λ b e f. let h = fits.alone b (sym a ∙ e) (sym s ∙ f) in (w ∙ h.0, t ∙ h.1);
-  stop = λ b e. s ∙ fits.stop b (sym t ∙ e);
+  rests = λ e. rw s (fits.rests (cc));
+  under = λ b e. s ∙ fits.under b (cc);
+  alone = λ b e f. let h = fits.alone b (cc) (cc) in (w ∙ h.0, t ∙ h.1);
+  stop = λ b e. s ∙ fits.stop b (cc);
 }
 
 -- the row after a follow, at other axes and at the axis itself
 unless_other : (reason : Option Reason) (row : Row) (a d : ℕ) (p : ℤ) → (d ≡ a → ⊥) → (followed_unless reason row a p).at d ≡ row.at d
-unless_other None row a d p ne = cond-false (eqb d a) (followed p (row.at d)) (row.at d) (ne_eqb d a ne)
-unless_other (Some reason) row a d p ne = refl
+unless_other reason row a d p ne = grind arith
 
 unless_count : (reason : Option Reason) (row : Row) (a : ℕ) (p : ℤ) → (followed_unless reason row a p).count ≡ row.count
-unless_count None row a p = refl
-unless_count (Some reason) row a p = refl
+unless_count reason row a p = grind arith
 
 unless_own : (reason : Option Reason) (row : Row) (a : ℕ) (p : ℤ) → reason ≡ None → (followed_unless reason row a p).at a ≡ followed p (row.at a)
-unless_own None row a p e = cond-true (eqb a a) (followed p (row.at a)) (row.at a) (eq-eqb a a refl)
-unless_own (Some reason) row a p e = absurd (let z : ◌≡◌ {A = ℕ} 0 1 = cc in omega arith)
+unless_own reason row a p e = grind arith
 
 -- a step leads a move from its demand to the same target
 step_aims : {rs : List Record} {bs : List Block} (y : Axis) (b : ℕ) (look : AxisLook) → y.active ≡ Some b → Aims rs bs y look → Aims rs bs (stepped y (nth bs b)) (followed (look.demand +ℤ step_of y (nth bs b)) look)
@@ -68,7 +65,7 @@ step_aims {rs} {bs} y b look active aims = record {
   aimed = λ c e m.
       let old = aims.aimed c e m in
       let same : b ≡ c = cc in
-      let mine : is_move (nth bs b).command ≡ true = subst (λ k. is_move (nth bs k).command ≡ true) (sym same) m in
+      let mine : is_move (nth bs b).command ≡ true = rw same m in
       let less : remaining y (nth bs b) ≡ y.distance_to_go -ℤ step_of y (nth bs b) = cond-true (is_move (nth bs b).command) _ _ mine in
       record { target = old.target; last = old.last; way = omega (arith, ints, old.way, less) };
 }
@@ -89,7 +86,7 @@ module _ {n : ℕ} {before : List ℕ} {rs : List Record} (w : World) (p : Part 
     rows_ahead = λ d h. g.rows_ahead d (omega arith);
     active = g.active;
     ways = λ d h b f r. elim (cases_eq d m) [
-      | inl i ↦ absurd (let q : None ≡ Some b = sym e ∙ g.active m ∙ ap (λ k. (axle w.sheet.table.axes k).active) (sym i) ∙ f in let z : ◌≡◌ {A = ℕ} 0 1 = cc in omega arith)
+      | inl i ↦ let q = g.active m in cc
       | inr ne ↦ g.ways d (omega (arith, h, ne)) b f r
     ];
   }
@@ -115,17 +112,13 @@ module _ {n : ℕ} {before : List ℕ} {rs : List Record} (w : World) (p : Part 
         ways = λ d h c f r. elim (cases_eq d m) [
           | inr ne ↦
               let old = g.ways d (omega (arith, h, ne)) c f r in
-              subst (λ k. OnWay rs w.sheet.table.blocks k ((followed_unless reason v.row m position).at d)) (sym (other d ne))
-              (subst (OnWay rs w.sheet.table.blocks (axle v.sheet.table.axes d)) (sym (unless_other reason v.row m d position ne)) old)
+              rw (other d ne, unless_other reason v.row m d position ne) old
           | inl i ↦
-              let none : reason ≡ None = sym (refusal_is v m b e) ∙ ap (λ u. refusal_of u m) same ∙ subst (λ k. refusal_of (ordered_upto w k) k ≡ None) i r in
+              let none : reason ≡ None = sym (refusal_is v m b e) ∙ ap (λ u. refusal_of u m) same ∙ rw i at r in
               let is_ready = ready v.row m position none in
-              let aims : Aims rs bs y (v.row.at m) = subst (λ cs. Aims rs cs y (v.row.at m)) (sym g.blocks) (subst (λ k. Aims rs w.sheet.table.blocks k (v.row.at m)) (sym (g.axes_ahead m (omega arith))) (subst (λ k. Aims rs w.sheet.table.blocks (axle w.sheet.table.axes m) k) (sym (g.rows_ahead m (omega arith))) (p.aims m lt))) in
+              let aims : Aims rs bs y (v.row.at m) = rw (g.blocks, g.axes_ahead m (omega arith), g.rows_ahead m (omega arith)) (p.aims m lt) in
               let now : OnWay rs bs z (followed position (v.row.at m)) = record { calm = is_ready.calm; on = is_ready.on; aims = step_aims y b (v.row.at m) e aims } in
-              subst (λ k. OnWay rs w.sheet.table.blocks (axle (set v.sheet.table.axes m z) k) ((followed_unless reason v.row m position).at k)) (sym i)
-              (subst (λ k. OnWay rs w.sheet.table.blocks k ((followed_unless reason v.row m position).at m)) (sym own)
-              (subst (OnWay rs w.sheet.table.blocks z) (sym (unless_own reason v.row m position none))
-              (subst (λ cs. OnWay rs cs z (followed position (v.row.at m))) g.blocks now)))
+              rw (i, own, unless_own reason v.row m position none, ← g.blocks) now
         ];
       }
 
@@ -149,7 +142,7 @@ module _ {n : ℕ} {before : List ℕ} {rs : List Record} (w : World) (p : Part 
 -- where no fault arose, an axis that was on shows its demand still
 demand_kept : {look seen : AxisLook} → AxisCycled look seen → look.power ≡ On → seen.fault ≡ 0 → seen.demand ≡ look.demand
 demand_kept {look} {seen} cycled on calm = elim cycled.rest [
-  | inl c ↦ subst (λ power. DemandCycled power look seen) on c.demand
+  | inl c ↦ rw on at c.demand
   | inr c ↦ absurd (omega (arith, c.fault, calm))
 ]
 
@@ -158,14 +151,7 @@ abbrev pub Unhurt : ℕ → List (Option Cause) → Row → ℕ → Type 0
 Unhurt count refusals shown d = (d < count) × (get_or refusals d None ≡ None) × ((shown.at d).fault ≡ 0)
 
 noted_none : (reason : Option Reason) (o : Option Cause) → Noted reason o → o ≡ None → reason ≡ None
-noted_none None o h e = refl
-noted_none (Some reason) None h e = absurd h
-noted_none (Some reason) (Some cause) h e = absurd (let z : ◌≡◌ {A = ℕ} 0 1 = cc in omega arith)
-
-aims_seen : {rs : List Record} {bs : List Block} {y : Axis} {look seen : AxisLook} → seen.demand ≡ look.demand → Aims rs bs y look → Aims rs bs y seen
-aims_seen {y = y} e aims = record {
-  aimed = λ b i m. let old = aims.aimed b i m in record { target = old.target; last = old.last; way = subst (λ q. y.distance_to_go ≡ old.target -ℤ q) (sym e) old.way };
-}
+noted_none reason o h e = grind arith
 
 -- after its orders and the segment's cycle, what was not hurt leads to its target
 pub followed_part :
@@ -185,6 +171,6 @@ followed_part {rs = rs} w p few refusals noted shown cycled =
                 let there : d < v.row.count = omega (arith, c.0, g.count) in
                 let way = g.ways d c.0 b (sym (g.active d) ∙ e) (noted_none (refusal_of (ordered_upto w d) d) (get_or refusals d None) (noted d c.0) c.1) in
                 let kept = demand_kept (cycled.each d there) way.on c.2 in
-                (aims_seen {seen = shown.at d} kept (subst (λ cs. Aims rs cs (axle v.sheet.table.axes d) (v.row.at d)) (sym g.blocks) way.aims)).aimed b e m;
+                (aims_demand {z = axle v.sheet.table.axes d} {seen = shown.at d} refl refl kept way.aims).aimed b e (rw g.blocks at m);
           };
     }

@@ -1,25 +1,24 @@
 -- What ties the records to the blocks, and the moves of one block that keep it. Assumes nothing.
-use Rattle.std.proofs.Common.{◌≡◌, ℕ, zero, suc, ◌+◌, ◌<◌, false, eqb, ◌⊎◌, List, [], ◌∷◌, length, get_or, set, replicate, ℤ, Some, Option, sym, refl, ap, ◌∙◌, subst, inl, inr, le_of_suc-le-suc, not-suc-le-zero, arith, length-set}
-use Rattle.std.proofs.lemmas.List.{get_or-set_same, get_or-set_other, get_or-replicate}
-use Rattle.std.proofs.lemmas.Bool.{ne_eqb, cases_eq, true≢false}
+use Rattle.std.proofs.Common.{◌≡◌, ℕ, zero, suc, ◌+◌, ◌<◌, false, eqb, ◌⊎◌, List, [], ◌∷◌, length, get_or, set, replicate, ℤ, Some, Option, sym, refl, ap, ◌∙◌, inl, inr, le_of_suc-le-suc, not-suc-le-zero, arith, length-set}
+use Rattle.std.proofs.lemmas.List.{get_or-replicate}
+use Rattle.std.proofs.lemmas.Bool.{ne_eqb}
 use Rattle.records.specs.declared.kinds.Record.{Record}
 use Rattle.records.specs.declared.kinds.Record.TheVariants.{Accept, Begin, End, State, Place, Cycle, Target}
 use Rattle.records.specs.declared.motion.AxisState.{AxisState}
 use Rattle.records.specs.declared.motion.BufferMode.{BufferMode}
 use Rattle.records.specs.declared.motion.Command.{Command}
 use Rattle.records.specs.declared.outcome.Outcome.{Outcome}
-use Rattle.records.specs.declared.outcome.Outcome.TheVariants as outcome
 use Rattle.totals.specs.Counts.{end_one, done_one, aborted_one, error_one}
 use Rattle.moves.specs.declared.instruction.Instruction.{Instruction}
-use Rattle.moves.specs.declared.instruction.Instruction.TheVariants as instruction
 use Rattle.moves.specs.declared.table.Block.{Block}
 use Rattle.moves.specs.declared.table.Status.{Status}
-use Rattle.moves.specs.declared.table.Status.TheVariants.{Idle, Waiting, Active, Done, Aborted, Error}
+use Rattle.moves.specs.declared.table.Status.TheVariants.{Waiting, Active}
 use Rattle.moves.specs.Blocks.{block_of, command_of, with_status, status_of, is_busy}
 use Rattle.moves.specs.Sheet.{idle_block}
 use Rattle.law.specs.Laws.Accounts.{Rounds, stage_by, stage_of, busy_one, busy_blocks, is_done}
-use Rattle.law.specs.Laws.Accounts.Stage.{out, waits, runs}
+use Rattle.law.specs.Laws.Accounts.Stage.{out, waits}
 use Rattle.law.specs.Readings.{names}
+use Rattle.law.proofs.Lines.{each_set}
 use Rattle.law.proofs.Readings.{ends_in}
 
 -- so many executes were not refused as ended or are busy, and each block's words are rounds up to where it stands
@@ -32,7 +31,7 @@ pub good_new : Good 0 [] (replicate 32 idle_block)
 good_new = record {
   size = refl;
   counts = refl;
-  rounds = λ b h. subst (λ x. Rounds b [] (stage_of x)) (sym (get_or-replicate 32 b idle_block idle_block h)) Rounds.none;
+  rounds = λ b h. rw (get_or-replicate 32 b idle_block idle_block h) Rounds.none;
 }
 
 -- ---- one block becomes another
@@ -43,16 +42,6 @@ busy_set :
 busy_set [] b y h = absurd (not-suc-le-zero h)
 busy_set (x ∷ xs) zero y h = omega arith
 busy_set (x ∷ xs) (suc b) y h = omega (arith, busy_set xs b y (le_of_suc-le-suc h))
-
-each_set :
-    (P : ℕ → Block → Type 0) (bs : List Block) (b : ℕ) (y : Block) → length bs ≡ 32 → b < 32 → P b y →
-    ((c : ℕ) → c < 32 → (c ≡ b → ⊥) → P c (get_or bs c idle_block)) → (c : ℕ) → c < 32 → P c (get_or (set bs b y) c idle_block)
-each_set P bs b y size hb here there c hc =
-    elim (cases_eq c b) [
-      | inl e ↦ subst (λ k. P k (get_or (set bs b y) k idle_block)) (sym e)
-          (subst (P b) (sym (get_or-set_same bs b y idle_block (omega arith))) here)
-      | inr ne ↦ subst (P c) (sym (get_or-set_other bs b c y idle_block ne)) (there c hc ne)
-    ]
 
 -- what the end of a record counts, whatever its outcome
 abbrev pub end_any : Record → ℕ
@@ -68,8 +57,8 @@ pub moves_on :
 moves_on {n} {rs} {bs} good m b x y h named count rounds = record {
   size = length-set bs b y ∙ good.size;
   counts = omega (arith, good.counts, count, busy_set bs b y (omega (arith, good.size)));
-  rounds = each_set (λ c z. Rounds c (x ∷ rs) (stage_of z)) bs b y good.size h rounds
-      (λ c k ne. Rounds.other (named c ∙ ne_eqb b c (λ e. ne (sym e))) (good.rounds c k));
+  rounds = each_set (λ c z. c < 32 → Rounds c (x ∷ rs) (stage_of z)) bs b y idle_block (omega (arith, good.size)) (λ k. rounds)
+      (λ c ne k. Rounds.other (named c ∙ ne_eqb b c (λ e. ne (sym e))) (good.rounds c k));
 }
 
 -- ---- a record of no block
@@ -99,44 +88,22 @@ module _ {n : ℕ} {rs : List Record} {bs : List Block} (good : Good n rs bs) wh
 -- ---- where a block stands
 
 busy_not : (s : Status) → is_busy s ≡ false → busy_one s ≡ 0
-busy_not Idle e = refl
-busy_not Waiting e = absurd (true≢false e)
-busy_not Active e = absurd (true≢false e)
-busy_not Done e = refl
-busy_not Aborted e = refl
-busy_not (Error cause) e = refl
+busy_not s e = grind arith
 
 stage_not : (s : Status) (a : ℕ) (c : Option Command) → is_busy s ≡ false → stage_by s a c ≡ out
-stage_not Idle a c e = refl
-stage_not Waiting a c e = absurd (true≢false e)
-stage_not Active a c e = absurd (true≢false e)
-stage_not Done a c e = refl
-stage_not Aborted a c e = refl
-stage_not (Error cause) a c e = refl
+stage_not s a c e = grind arith
 
 ended_not : (o : Outcome) → is_busy (status_of o) ≡ false
-ended_not outcome.Done = refl
-ended_not outcome.Aborted = refl
-ended_not (outcome.Error cause) = refl
+ended_not o = grind arith
 
 ended_one : (o : Outcome) → done_one o + aborted_one o + error_one o ≡ 1
-ended_one outcome.Done = refl
-ended_one outcome.Aborted = refl
-ended_one (outcome.Error cause) = refl
+ended_one o = grind arith
 
 taken_busy : (a : ℕ) (i : Instruction) (mode : BufferMode) → busy_one (block_of a i mode).status ≡ 1
-taken_busy a (instruction.Absolute position top acceleration) mode = refl
-taken_busy a (instruction.Relative distance top acceleration) mode = refl
-taken_busy a (instruction.Velocity velocity acceleration) mode = refl
-taken_busy a (instruction.Halt acceleration) mode = refl
-taken_busy a (instruction.Stop acceleration) mode = refl
+taken_busy a i mode = grind arith
 
 taken_stage : (a : ℕ) (i : Instruction) (mode : BufferMode) → stage_of (block_of a i mode) ≡ waits a (Some (command_of i))
-taken_stage a (instruction.Absolute position top acceleration) mode = refl
-taken_stage a (instruction.Relative distance top acceleration) mode = refl
-taken_stage a (instruction.Velocity velocity acceleration) mode = refl
-taken_stage a (instruction.Halt acceleration) mode = refl
-taken_stage a (instruction.Stop acceleration) mode = refl
+taken_stage a i mode = grind arith
 
 -- ---- the moves
 
@@ -149,8 +116,7 @@ module _ {n : ℕ} {rs : List Record} {bs : List Block} (good : Good n rs bs) wh
       let x = get_or bs b idle_block in
       moves_on good (1 + n) b (Accept a b (command_of instruction) mode) (block_of a instruction mode) h (λ c. refl)
       (omega (arith, busy_not x.status free, taken_busy a instruction mode))
-      (subst (Rounds b (Accept a b (command_of instruction) mode ∷ rs)) (sym (taken_stage a instruction mode))
-      (Rounds.accepted (subst (Rounds b rs) (stage_not x.status x.axis x.command free) (good.rounds b h))))
+      (rw (taken_stage a instruction mode) (Rounds.accepted (rw (stage_not x.status x.axis x.command free) at (good.rounds b h))))
 
   pub good_begun :
       (a b : ℕ) → b < 32 → (get_or bs b idle_block).status ≡ Waiting → (get_or bs b idle_block).axis ≡ a →
@@ -159,8 +125,7 @@ module _ {n : ℕ} {rs : List Record} {bs : List Block} (good : Good n rs bs) wh
       let x = get_or bs b idle_block in
       moves_on good n b (Begin a b) (with_status x Active) h (λ c. refl)
       (omega (arith, ap busy_one waiting))
-      (subst (λ k. Rounds b (Begin k b ∷ rs) (runs x.axis x.command)) on
-      (Rounds.begun (subst (λ s. Rounds b rs (stage_by s x.axis x.command)) waiting (good.rounds b h))))
+      (rw (← on) (Rounds.begun (rw waiting at (good.rounds b h))))
 
   pub good_ended :
       (a b : ℕ) (outcome : Outcome) → b < 32 → (get_or bs b idle_block).axis ≡ a →
@@ -171,14 +136,12 @@ module _ {n : ℕ} {rs : List Record} {bs : List Block} (good : Good n rs bs) wh
       let stood = good.rounds b h in
       let busy : busy_one x.status ≡ 1 = elim was [ inl e ↦ ap busy_one e | inr e ↦ ap busy_one e.0 ] in
       let over : Rounds b (End x.axis b outcome ∷ rs) out = elim was [
-        | inl e ↦ Rounds.ended (subst (λ s. Rounds b rs (stage_by s x.axis x.command)) e stood)
-        | inr e ↦ Rounds.dropped e.1 (subst (λ s. Rounds b rs (stage_by s x.axis x.command)) e.0 stood)
+        | inl e ↦ Rounds.ended (rw e at stood)
+        | inr e ↦ Rounds.dropped e.1 (rw e.0 at stood)
       ] in
       moves_on good n b (End a b outcome) (with_status x (status_of outcome)) h (λ c. refl)
       (omega (arith, busy, busy_not (status_of outcome) (ended_not outcome), ended_one outcome))
-      (subst (Rounds b (End a b outcome ∷ rs))
-      (sym (stage_not (status_of outcome) x.axis x.command (ended_not outcome)))
-      (subst (λ k. Rounds b (End k b outcome ∷ rs) out) on over))
+      (rw (stage_not (status_of outcome) x.axis x.command (ended_not outcome), ← on) over)
 
   -- no word is written
   pub good_idled : (b : ℕ) → b < 32 → is_busy (get_or bs b idle_block).status ≡ false → Good n rs (set bs b idle_block)
@@ -187,7 +150,6 @@ module _ {n : ℕ} {rs : List Record} {bs : List Block} (good : Good n rs bs) wh
       record {
         size = length-set bs b idle_block ∙ good.size;
         counts = omega (arith, good.counts, busy_not x.status free, busy_set bs b idle_block (omega (arith, good.size)));
-        rounds = each_set (λ c z. Rounds c rs (stage_of z)) bs b idle_block good.size h
-            (subst (Rounds b rs) (stage_not x.status x.axis x.command free) (good.rounds b h))
-            (λ c k ne. good.rounds c k);
+        rounds = each_set (λ c z. c < 32 → Rounds c rs (stage_of z)) bs b idle_block idle_block (omega (arith, good.size))
+            (λ k. rw (stage_not x.status x.axis x.command free) at (good.rounds b h)) (λ c ne k. good.rounds c k);
       }

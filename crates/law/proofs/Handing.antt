@@ -1,32 +1,27 @@
 -- What comes after a command that ended: the next one, standstill, or errorstop. Assumes nothing.
-use Rattle.std.proofs.Common.{◌≡◌, ℕ, zero, suc, ◌+◌, ◌-◌, ◌<◌, Bool, true, false, cond, T, eqb, List, get_or, ℤ, pos, negsuc, ◌+ℤ◌, ◌≤ℤ◌, Some, None, Option, sym, refl, ap, ◌∙◌, subst, arith}
-use lib.Signed.{le_z}
+use Rattle.std.proofs.Common.{◌≡◌, ℕ, ◌+◌, ◌-◌, ◌<◌, true, false, eqb, List, get_or, ℤ, Some, None, Ok, Err, Option, refl, ◌∙◌, arith}
 use Rattle.std.proofs.lemmas.List.{get_or-set_other}
 use Rattle.std.proofs.lemmas.Int.{ints}
-use Rattle.std.proofs.lemmas.Bool.{eqb-true, eqb-false, cond-false, ne_eqb, and_parts, and_from, true≢false}
+use Rattle.std.proofs.lemmas.Bool.{cond-false, ne_eqb}
 use Rattle.segment.specs.declared.axis.AxisLook.{AxisLook}
 use Rattle.segment.specs.Calls.{in_range, unpowered}
 use Rattle.segment.specs.Row.{Row, Position, Sound, changed}
 use Rattle.records.specs.declared.kinds.Record.{Record}
 use Rattle.records.specs.declared.motion.AxisState.{AxisState}
-use Rattle.records.specs.declared.motion.AxisState.TheVariants.{Disabled, Standstill, Stopping, DiscreteMotion, ContinuousMotion, ErrorStop}
+use Rattle.records.specs.declared.motion.AxisState.TheVariants.{Stopping, DiscreteMotion, ContinuousMotion, ErrorStop}
 use Rattle.records.specs.declared.motion.Command.{Command}
-use Rattle.records.specs.declared.motion.Command.TheVariants as command
 use Rattle.records.specs.declared.outcome.Cause.{Cause}
 use Rattle.records.specs.declared.outcome.Cause.TheVariants.{RangeAtBegin}
 use Rattle.records.specs.declared.outcome.Outcome.TheVariants.{Error}
 use Rattle.records.specs.Numbers.{state_number}
 use Rattle.words.specs.Words.{lawful_cause, in_reach}
-use Rattle.moves.specs.declared.aim.Aim.{Aim}
-use Rattle.moves.specs.declared.aim.Aim.TheVariants.{Free, At, Outside}
 use Rattle.moves.specs.declared.table.Axis.{Axis}
 use Rattle.moves.specs.declared.table.Block.{Block}
-use Rattle.moves.specs.declared.table.Status.TheVariants.{Waiting, Active}
+use Rattle.moves.specs.declared.table.Status.TheVariants.{Active}
 use Rattle.moves.specs.Axes.{with_state, rest_state, shifted, is_errorstop}
-use Rattle.moves.specs.Blocks.{is_move, state_under, aimed_at, aim_of, block_aim}
-use Rattle.turns.specs.declared.turn.Next.{Next}
-use Rattle.turns.specs.declared.turn.Next.TheVariants.{Nothing, Begin, OutOfRange}
-use Rattle.turns.specs.Turns.{next_by, next_of}
+use Rattle.moves.specs.Blocks.{is_move, state_under, aim_of, block_aim}
+use Rattle.turns.specs.declared.turn.Start.{Start}
+use Rattle.turns.specs.Turns.{Next, next_of}
 use Rattle.motion.specs.Settling.{handed_by, handed}
 use Rattle.motion.specs.World.{World, axis_of, failed}
 use Rattle.law.specs.Laws.States.{Arrow}
@@ -52,11 +47,7 @@ pub seen_then : {x y z : AxisLook} → Seen x y → Seen y z → Seen x z
 seen_then one two = record { demand = two.demand ∙ one.demand; actual = two.actual ∙ one.actual; fault = two.fault ∙ one.fault }
 
 pub seen_unpowered : (row : Row) (a d : ℕ) → Seen (row.at d) ((changed unpowered row a).at d)
-seen_unpowered row a d = by (eqb d a)
-  where
-    by : (same : Bool) → Seen (row.at d) (cond same (unpowered (row.at d)) (row.at d))
-    by true = record { demand = refl; actual = refl; fault = refl }
-    by false = seen_same (row.at d)
+seen_unpowered row a d = grind arith
 
 -- ---- a turn of the axis a that is over
 
@@ -91,18 +82,10 @@ failed_went {a} w turn ha cause lawful state = record {
 -- ---- positions in reach
 
 pub reach_of : (p : ℤ) → Position p → in_reach p ≡ true
-reach_of p h = and_from (le_z (negsuc 99999999) p) (le_z p (pos 100000000)) (test _ h.0.le) (test _ h.1.le)
-  where
-    test : (t : Bool) → T t → t ≡ true
-    test true h = refl
-    test false h = absurd h
+reach_of p h = grind (arith, ints)
 
 pub reach_within : (look : AxisLook) (p : ℤ) → Sound look → in_range look p ≡ true → in_reach p ≡ true
-reach_within look p sound e =
-    let parts = and_parts (le_z look.low p) (le_z p look.high) e in
-    let low : look.low ≤ℤ p = record { le = subst T (sym parts.0) tt } in
-    let high : p ≤ℤ look.high = record { le = subst T (sym parts.1) tt } in
-    reach_of p (omega (arith, ints, sound.low.0, low), omega (arith, ints, sound.high.1, high))
+reach_within look p sound e = grind (arith, ints)
 
 -- ---- the next command
 
@@ -113,75 +96,40 @@ record Begins (y : Axis) (x : Block) (look : AxisLook) (b : ℕ) (target : Optio
   has : HasTarget x.command target
   reach : Sound look → Reachable target
 
-aimed_in : (look : AxisLook) (p t : ℤ) → aimed_at look p ≡ At t → in_range look t ≡ true
-aimed_in look p t e = by (in_range look p) refl e
-  where
-    by : (z : Bool) → in_range look p ≡ z → cond z (At p) Outside ≡ At t → in_range look t ≡ true
-    by true i e = let same : p ≡ t = cc in subst (λ q. in_range look q ≡ true) same i
-    by false i e = absurd (let z : ◌≡◌ {A = ℕ} 0 1 = cc in omega arith)
-
-aim_in : (c : Option Command) (value : ℤ) (look : AxisLook) (t : ℤ) → aim_of c value look ≡ At t → in_range look t ≡ true
-aim_in None value look t e = absurd (let z : ◌≡◌ {A = ℕ} 0 1 = cc in omega arith)
-aim_in (Some command.Absolute) value look t e = aimed_in look value t e
-aim_in (Some command.Relative) value look t e = aimed_in look (look.demand +ℤ value) t e
-aim_in (Some command.Velocity) value look t e = absurd (let z : ◌≡◌ {A = ℕ} 0 1 = cc in omega arith)
-aim_in (Some command.Halt) value look t e = absurd (let z : ◌≡◌ {A = ℕ} 0 1 = cc in omega arith)
-aim_in (Some command.Stop) value look t e = absurd (let z : ◌≡◌ {A = ℕ} 0 1 = cc in omega arith)
-
-aimed_not_free : (look : AxisLook) (p : ℤ) → aimed_at look p ≡ Free → ⊥
-aimed_not_free look p e = by (in_range look p) e
-  where
-    by : (z : Bool) → cond z (At p) Outside ≡ Free → ⊥
-    by true e = let z : ◌≡◌ {A = ℕ} 0 1 = cc in omega arith
-    by false e = let z : ◌≡◌ {A = ℕ} 0 1 = cc in omega arith
+aim_in : (c : Option Command) (value : ℤ) (look : AxisLook) (t : ℤ) → aim_of c value look ≡ Ok (Some t) → in_range look t ≡ true
+aim_in c value look t e = grind arith
 
 -- a command without a target is no move
-pub free_no_move : (c : Option Command) (value : ℤ) (look : AxisLook) → aim_of c value look ≡ Free → is_move c ≡ true → ⊥
-free_no_move None value look e m = true≢false (sym m)
-free_no_move (Some command.Absolute) value look e m = aimed_not_free look value e
-free_no_move (Some command.Relative) value look e m = aimed_not_free look (look.demand +ℤ value) e
-free_no_move (Some command.Velocity) value look e m = true≢false (sym m)
-free_no_move (Some command.Halt) value look e m = true≢false (sym m)
-free_no_move (Some command.Stop) value look e m = true≢false (sym m)
+pub free_no_move : (c : Option Command) (value : ℤ) (look : AxisLook) → aim_of c value look ≡ Ok None → is_move c ≡ true → ⊥
+free_no_move c value look e m = grind arith
 
 -- the target of a block that begins
 pub record TargetOf (x : Block) (look : AxisLook) (target : Option ℤ) : Type 0 where
   pub has : HasTarget x.command target
   pub reach : Sound look → Reachable target
 
-pub target_free : (x : Block) (look : AxisLook) → block_aim x look ≡ Free → TargetOf x look None
+pub target_free : (x : Block) (look : AxisLook) → block_aim x look ≡ Ok None → TargetOf x look None
 target_free x look e = record { has = λ m. absurd (free_no_move x.command x.value look e m); reach = λ _. tt }
 
-pub target_at : (x : Block) (look : AxisLook) (t : ℤ) → block_aim x look ≡ At t → TargetOf x look (Some t)
+pub target_at : (x : Block) (look : AxisLook) (t : ℤ) → block_aim x look ≡ Ok (Some t) → TargetOf x look (Some t)
 target_at x look t e = record { has = λ m. (t, refl); reach = λ sound. reach_within look t sound (aim_in x.command x.value look t e) }
 
-next_begin : (y : Axis) (x : Block) (look : AxisLook) (b : ℕ) (target : Option ℤ) → next_of y x look ≡ Begin b target → Begins y x look b target
+targeted : (o : Option ℤ) → (o ≡ None → ⊥) → (t : ℤ) × (o ≡ Some t)
+targeted None never = absurd (never refl)
+targeted (Some t) never = (t, refl)
+
+next_begin : (y : Axis) (x : Block) (look : AxisLook) (start : Start) → next_of y x look ≡ Ok (Some start) → Begins y x look start.block start.target
 unfolding next_of
-next_begin y x look b target e = by (eqb y.waiting 0) refl e
-  where
-    aims : (aim : Aim) → block_aim x look ≡ aim → next_by (get_or y.queue 0 0) aim ≡ Begin b target → (b ≡ get_or y.queue 0 0) × TargetOf x look target
-    aims Free i e = let t : None ≡ target = cc in (cc, subst (TargetOf x look) t (target_free x look i))
-    aims (At p) i e = let t : Some p ≡ target = cc in (cc, subst (TargetOf x look) t (target_at x look p i))
-    aims Outside i e = absurd (let z : ◌≡◌ {A = ℕ} 0 1 = cc in omega arith)
+next_begin y x look start e = record {
+  some = grind arith;
+  block = grind arith;
+  has = λ m. targeted start.target (λ none. grind (arith, free_no_move));
+  reach = λ sound. grind (arith, reach_within, aim_in);
+}
 
-    by : (z : Bool) → eqb y.waiting 0 ≡ z → cond z Nothing (next_by (get_or y.queue 0 0) (block_aim x look)) ≡ Begin b target → Begins y x look b target
-    by true i e = absurd (let z : ◌≡◌ {A = ℕ} 0 1 = cc in omega arith)
-    by false i e =
-        let r = aims (block_aim x look) refl e in
-        record { some = omega (arith, eqb-false y.waiting 0 i); block = r.0; has = r.1.has; reach = r.1.reach }
-
-next_nothing : (y : Axis) (x : Block) (look : AxisLook) → next_of y x look ≡ Nothing → y.waiting ≡ 0
+next_nothing : (y : Axis) (x : Block) (look : AxisLook) → next_of y x look ≡ Ok None → y.waiting ≡ 0
 unfolding next_of
-next_nothing y x look e = by (eqb y.waiting 0) refl e
-  where
-    aims : (aim : Aim) → next_by (get_or y.queue 0 0) aim ≡ Nothing → y.waiting ≡ 0
-    aims Free e = absurd (let z : ◌≡◌ {A = ℕ} 0 1 = cc in omega arith)
-    aims (At p) e = absurd (let z : ◌≡◌ {A = ℕ} 0 1 = cc in omega arith)
-    aims Outside e = absurd (let z : ◌≡◌ {A = ℕ} 0 1 = cc in omega arith)
-
-    by : (z : Bool) → eqb y.waiting 0 ≡ z → cond z Nothing (next_by (get_or y.queue 0 0) (block_aim x look)) ≡ Nothing → y.waiting ≡ 0
-    by true i e = eqb-true y.waiting 0 i
-    by false i e = aims (block_aim x look) e
+next_nothing y x look e = grind arith
 
 -- ---- states
 
@@ -192,62 +140,35 @@ pub data LeftIn : AxisState → ℕ → Type 0 where
   running : (waiting : ℕ) → 0 < waiting → LeftIn ContinuousMotion waiting
 
 leads_rest : {state : AxisState} {waiting : ℕ} → LeftIn state waiting → waiting ≡ 0 → Leads state (rest_state state)
-leads_rest (moving _) z i = Arrow.rests
-leads_rest stopping z i = absurd (true≢false i)
-leads_rest (running _ h) z i = absurd (omega (arith, h, z))
+leads_rest left z i = grind (arith, Arrow.rests)
 
 rests_rest : (state : AxisState) → Rests (rest_state state)
-rests_rest Disabled = tt
-rests_rest Standstill = tt
-rests_rest Stopping = tt
-rests_rest DiscreteMotion = tt
-rests_rest ContinuousMotion = tt
-rests_rest ErrorStop = tt
+rests_rest state = grind arith
 
 not_errorstop : {state : AxisState} {waiting : ℕ} → LeftIn state waiting → is_errorstop state ≡ false
-not_errorstop (moving _) = refl
-not_errorstop stopping = refl
-not_errorstop (running _ h) = refl
+not_errorstop left = grind arith
 
 no_stop : (c : Option Command) → is_stop c ≡ false → state_under c ≡ Stopping → ⊥
-no_stop None e i = let z : ◌≡◌ {A = ℕ} 0 1 = cc in omega arith
-no_stop (Some command.Absolute) e i = let z : ◌≡◌ {A = ℕ} 0 1 = cc in omega arith
-no_stop (Some command.Relative) e i = let z : ◌≡◌ {A = ℕ} 0 1 = cc in omega arith
-no_stop (Some command.Velocity) e i = let z : ◌≡◌ {A = ℕ} 0 1 = cc in omega arith
-no_stop (Some command.Halt) e i = let z : ◌≡◌ {A = ℕ} 0 1 = cc in omega arith
-no_stop (Some command.Stop) e i = true≢false e
+no_stop c e i = grind arith
 
 leads_next : {state : AxisState} {waiting : ℕ} (c : Option Command) → LeftIn state waiting → 0 < waiting → Leads state (state_under c)
-leads_next None (moving _) h i = absurd (true≢false i)
-leads_next (Some command.Absolute) (moving _) h i = absurd (true≢false i)
-leads_next (Some command.Relative) (moving _) h i = absurd (true≢false i)
-leads_next (Some command.Velocity) (moving _) h i = Arrow.runs_on
-leads_next (Some command.Halt) (moving _) h i = absurd (true≢false i)
-leads_next (Some command.Stop) (moving _) h i = Arrow.stops_moving
+leads_next c (moving _) h i = grind (arith, Arrow.runs_on, Arrow.stops_moving)
 leads_next c stopping h i = absurd (omega (arith, h))
-leads_next None (running _ k) h i = Arrow.moves_on
-leads_next (Some command.Absolute) (running _ k) h i = Arrow.moves_on
-leads_next (Some command.Relative) (running _ k) h i = Arrow.moves_on
-leads_next (Some command.Velocity) (running _ k) h i = absurd (true≢false i)
-leads_next (Some command.Halt) (running _ k) h i = Arrow.moves_on
-leads_next (Some command.Stop) (running _ k) h i = Arrow.stops_running
+leads_next c (running _ k) h i = grind (arith, Arrow.moves_on, Arrow.stops_running)
 
 -- ---- the queue without its first
 
 shifted_at : (queue : List ℕ) (k : ℕ) → k < 3 → get_or (shifted queue) k 0 ≡ get_or queue (k + 1) 0
-shifted_at queue zero h = refl
-shifted_at queue (suc zero) h = refl
-shifted_at queue (suc (suc zero)) h = refl
-shifted_at queue (suc (suc (suc k))) h = absurd (omega arith)
+shifted_at queue k h = grind arith
 
 behind_first : {bs : List Block} {a : ℕ} {y : Axis} → Line bs a y → 0 < y.waiting → Behind bs a (get_or y.queue 0 0) (shifted y.queue) (y.waiting - 1)
 behind_first {bs} {a} {y} line some = record {
   long = refl;
   few = omega (arith, line.few);
-  waits = λ k h. subst (λ b. Lines.At bs b a Waiting) (sym (moved k h)) (line.waiting (k + 1) (omega (arith, h)));
-  gentle = λ k h. subst (λ b. is_stop (nth bs b).command ≡ false) (sym (moved k h)) (line.gentle (k + 1) (omega (arith, h)));
-  others = λ k h e. line.apart 0 (k + 1) (omega arith) (omega (arith, h)) (sym e ∙ moved k h);
-  apart = λ j k i h e. line.apart (j + 1) (k + 1) (omega (arith, i)) (omega (arith, h)) (sym (moved j (omega (arith, i, h))) ∙ e ∙ moved k h);
+  waits = λ k h. rw (moved k h) (line.waiting (k + 1) (omega (arith, h)));
+  gentle = λ k h. rw (moved k h) (line.gentle (k + 1) (omega (arith, h)));
+  others = λ k h e. line.apart 0 (k + 1) (omega arith) (omega (arith, h)) (cc (moved k h));
+  apart = λ j k i h e. line.apart (j + 1) (k + 1) (omega (arith, i)) (omega (arith, h)) (cc (moved j (omega (arith, i, h)), moved k h));
 }
   where
     moved : (k : ℕ) → k < y.waiting - 1 → get_or (shifted y.queue) k 0 ≡ get_or y.queue (k + 1) 0
@@ -278,10 +199,10 @@ handed_went {a} {C} {n} {before} {rs} w turn ha sound none left = by (next_of y 
     line = turn.lines.each a
 
     idle : (c : ℕ) → Lines.At bs c a Active → ⊥
-    idle c at = let e : None ≡ Some c = sym none ∙ line.only c at in let z : ◌≡◌ {A = ℕ} 0 1 = cc in omega arith
+    idle c at = let e = line.only c at in cc
 
-    begins : (b : ℕ) (target : Option ℤ) → Begins y x look b target → Went a C n before rs w (handed_by (Begin b target) w a)
-    begins b target g = subst (λ k. Went a C n before rs w (handed_by (Begin k target) w a)) (sym g.block)
+    begins : (b : ℕ) (target : Option ℤ) → Begins y x look b target → Went a C n before rs w (handed_by (Ok (Some (record { block = b; target = target }))) w a)
+    begins b target g = rw g.block
         (let at = line.waiting 0 g.some in
         let behind = behind_first line g.some in
         let first = get_or y.queue 0 0 in
@@ -298,18 +219,18 @@ handed_went {a} {C} {n} {before} {rs} w turn ha sound none left = by (next_of y 
         })
 
     by : (next : Next) → next_of y x look ≡ next → Went a C n before rs w (handed_by next w a)
-    by Nothing e =
+    by (Ok None) e =
         let z : Axis = with_state y (rest_state y.state) in
         record {
           records = entry_records a y.state z.state rs;
           part = enter_rest turn ha z none none refl refl (rests_rest y.state) (λ b. stop_remembered (rest_state y.state) y.stop b)
               (leads_rest left (next_nothing y x look e)) w.row (λ d ne. refl);
           adds = adds_state a bs rs (eqb (state_number y.state) (state_number z.state)) a y.state z.state;
-          leaves = subst (Leaves a bs) (sym (entered_blocks w.sheet a z)) (leaves_all a bs);
-          others = λ d ne. ap (λ axs. axle axs d) (entered_axes w.sheet a z) ∙ get_or-set_other w.sheet.table.axes a d z _ ne;
+          leaves = rw (entered_blocks w.sheet a z) (leaves_all a bs);
+          others = λ d ne. rw (entered_axes w.sheet a z) (get_or-set_other w.sheet.table.axes a d z _ ne);
           seen = λ d. seen_same (w.row.at d);
           rows = λ d ne. refl;
           count = refl;
         }
-    by (Begin b target) e = begins b target (next_begin y x look b target e)
-    by OutOfRange e = failed_went w turn ha RangeAtBegin refl (not_errorstop left)
+    by (Ok (Some start)) e = begins start.block start.target (next_begin y x look start e)
+    by (Err out) e = failed_went w turn ha RangeAtBegin refl (not_errorstop left)

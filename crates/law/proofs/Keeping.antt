@@ -1,28 +1,26 @@
 -- Each call but the cycle keeps the law. Assumes nothing.
-use Rattle.std.proofs.Common.{◌≡◌, ℕ, ◌+◌, ◌<◌, ◌≤◌, Bool, true, false, cond, eqb, leb, List, ◌∷◌, set, ℤ, ◌-ℤ◌, Some, None, Option, sym, refl, ap, ◌∙◌, subst, arith}
+use Rattle.std.proofs.Common.{◌≡◌, ℕ, ◌+◌, ◌<◌, ◌≤◌, Bool, true, false, List, ◌∷◌, set, ℤ, Some, None, Option, refl, arith}
 use Rattle.std.proofs.lemmas.List.{get_or-set_other}
-use Rattle.std.proofs.lemmas.Bool.{cond-true, eq-eqb, eqb-false, le-leb, and_from, true≢false}
 use Rattle.segment.specs.declared.axis.AxisLook.{AxisLook}
 use Rattle.segment.specs.Calls.{powered, unpowered, tripped, cleared}
 use Rattle.segment.specs.Row.{Row, changed}
 use Rattle.records.specs.declared.kinds.Record.{Record}
 use Rattle.records.specs.declared.kinds.Record.TheVariants.{Accept}
 use Rattle.records.specs.declared.motion.AxisState.{AxisState}
-use Rattle.records.specs.declared.motion.AxisState.TheVariants.{Disabled, Standstill, Stopping, DiscreteMotion, ContinuousMotion, ErrorStop}
+use Rattle.records.specs.declared.motion.AxisState.TheVariants.{Disabled}
 use Rattle.records.specs.declared.motion.BufferMode.{BufferMode}
 use Rattle.records.specs.declared.outcome.Cause.TheVariants.{Drive}
 use Rattle.records.specs.declared.outcome.Outcome.TheVariants.{Aborted}
 use Rattle.words.specs.Words.{may_be, lawful_cause}
 use Rattle.moves.specs.declared.instruction.Instruction.{Instruction}
-use Rattle.moves.specs.declared.instruction.Instruction.TheVariants as instruction
 use Rattle.moves.specs.declared.table.Axis.{Axis}
 use Rattle.moves.specs.declared.table.Block.{Block}
 use Rattle.moves.specs.declared.table.Status.TheVariants.{Active}
 use Rattle.moves.specs.Axes.{with_request, with_state, is_errorstop}
-use Rattle.moves.specs.Blocks.{block_of, command_of, is_busy, is_move, state_under}
+use Rattle.moves.specs.Blocks.{block_of, command_of, is_busy}
 use Rattle.moves.specs.Moves.{accepted, kept}
 use Rattle.moves.specs.Sheet.{Sheet, idle_block}
-use Rattle.motion.specs.World.{World, axis_of, failed}
+use Rattle.motion.specs.World.{World, axis_of}
 use Rattle.sequencer.specs.Calls.{powered_on, powered_off, idled, reset_world, failed_unless, tripped_world}
 use Rattle.law.specs.Laws.Arrivals.{done_ends}
 use Rattle.law.specs.Laws.States.{Arrow}
@@ -31,8 +29,8 @@ use Rattle.law.proofs.Closing.{Leads, enter_rest, stop_remembered, quelled_part,
 use Rattle.law.proofs.Ends.{adds_state}
 use Rattle.law.proofs.Good.{good_idled}
 use Rattle.law.proofs.Handing.{failed_went, seen_unpowered}
-use Rattle.law.proofs.Lines.{nth, axle, Lines, leaves_all, line_same, line_replaced, not_busy}
-use Rattle.law.proofs.Parts.{Fits, Aims, Open, Part, But, opened, open_on, close_on}
+use Rattle.law.proofs.Lines.{nth, axle, leaves_all, line_same, line_replaced, not_busy}
+use Rattle.law.proofs.Parts.{Fits, Open, Part, But, opened, open_on, close_on, aims_demand}
 use Rattle.law.proofs.Told.{Told, told_accepted, told_kept, entry_records}
 use Rattle.law.proofs.Turning.{runs_no_errorstop}
 
@@ -43,35 +41,19 @@ pub record Keeps (m : ℕ) (before : List ℕ) (rs : List Record) (w' : World) :
   pub dones : (b : ℕ) → done_ends b records ≡ done_ends b rs
 
 -- an axis that is asked for nothing more
-whole : {a m : ℕ} {count : ℕ} {before : List ℕ} {rs : List Record} {s : Sheet} {row : Row} → Part (But a (λ d. d < count)) m before rs s row → Part (λ d. d < count) m before rs s row
+pub whole : {a m : ℕ} {count : ℕ} {before : List ℕ} {rs : List Record} {s : Sheet} {row : Row} → Part (But a (λ d. d < count)) m before rs s row → Part (λ d. d < count) m before rs s row
 whole p = record { told = p.told; lines = p.lines; fits = p.fits; aims = λ d lt. p.aims d (λ ne. lt) }
 
 -- ---- rows
 
 -- a change of an axis that leaves its demand
 row_demand : (f : AxisLook → AxisLook) → ((look : AxisLook) → (f look).demand ≡ look.demand) → (row : Row) (a d : ℕ) → ((changed f row a).at d).demand ≡ (row.at d).demand
-row_demand f same row a d = by (eqb d a)
-  where
-    by : (z : Bool) → (cond z (f (row.at d)) (row.at d)).demand ≡ (row.at d).demand
-    by true = same (row.at d)
-    by false = refl
-
-aims_demand : {rs : List Record} {bs : List Block} {y z : Axis} {look seen : AxisLook} → z.active ≡ y.active → z.distance_to_go ≡ y.distance_to_go → seen.demand ≡ look.demand → Aims rs bs y look → Aims rs bs z seen
-aims_demand {seen = seen} e f g aims = record {
-  aimed = λ b i m.
-      let old = aims.aimed b (sym e ∙ i) m in
-      record { target = old.target; last = old.last; way = f ∙ old.way ∙ ap (λ p. old.target -ℤ p) (sym g) };
-}
+row_demand f same row a d = grind (arith, same (row.at d))
 
 -- ---- power
 
 leads_disabled : (state : AxisState) → Leads state Disabled
-leads_disabled Disabled i = absurd (true≢false i)
-leads_disabled Standstill i = Arrow.disables refl
-leads_disabled Stopping i = Arrow.disables refl
-leads_disabled DiscreteMotion i = Arrow.disables refl
-leads_disabled ContinuousMotion i = Arrow.disables refl
-leads_disabled ErrorStop i = Arrow.disables refl
+leads_disabled state i = grind (arith, Arrow.disables)
 
 fits_request : {bs : List Block} {y : Axis} (r : Bool) → Fits bs y → Fits bs (with_request y r)
 fits_request r fits = record { rests = fits.rests; under = fits.under; alone = fits.alone; stop = fits.stop }
@@ -126,15 +108,10 @@ module _ {n : ℕ} {before : List ℕ} {rs : List Record} (w : World) (p : Part 
     where
       by : (o : Option ℕ) → (axis_of w a).active ≡ o → o ≡ None
       by None i = refl
-      by (Some b) i = absurd (true≢false (sym e ∙ ap is_errorstop ((p.fits a).under b i) ∙ runs_no_errorstop (nth w.sheet.table.blocks b).command))
+      by (Some b) i = let under = (p.fits a).under b i in let calm = runs_no_errorstop (nth w.sheet.table.blocks b).command in cc
 
   tripped_fault : (code : ℕ) → 1 ≤ code → code ≤ 15 → (w.row.at a).fault ≤ 15 → lawful_cause (Drive ((changed (tripped code) w.row a).at a).fault) ≡ true
-  tripped_fault code low high sound =
-      ap (λ look. lawful_cause (Drive look.fault)) (cond-true (eqb a a) (tripped code (w.row.at a)) (w.row.at a) (eq-eqb a a refl)) ∙ by (eqb (w.row.at a).fault 0) refl
-    where
-      by : (z : Bool) → eqb (w.row.at a).fault 0 ≡ z → lawful_cause (Drive (cond z code (w.row.at a).fault)) ≡ true
-      by true e = and_from (leb 1 code) (leb code 15) (le-leb 1 code low) (le-leb code 15 high)
-      by false e = and_from (leb 1 (w.row.at a).fault) (leb (w.row.at a).fault 15) (le-leb 1 _ (omega (arith, eqb-false (w.row.at a).fault 0 e))) (le-leb _ 15 sound)
+  tripped_fault code low high sound = grind arith
 
   pub keeps_trip : (code : ℕ) → 1 ≤ code → code ≤ 15 → (w.row.at a).fault ≤ 15 → Keeps n before rs (tripped_world w a code)
   unfolding tripped_world
@@ -155,7 +132,7 @@ module _ {n : ℕ} {before : List ℕ} {rs : List Record} (w : World) (p : Part 
           let g = failed_went w1 (opened a p1) ha (Drive (row1.at a).fault) (tripped_fault code low high sound) e in
           record {
             records = g.records;
-            part = subst (λ c. Part (λ d. d < c) n before g.records (failed w1 a (Drive (row1.at a).fault)).sheet (failed w1 a (Drive (row1.at a).fault)).row) (sym g.count) (whole {a = a} g.part);
+            part = rw g.count (whole {a = a} g.part);
             dones = g.adds.dones;
           }
 
@@ -171,25 +148,25 @@ module _ {C : ℕ → Type 0} {n : ℕ} {before : List ℕ} {rs : List Record} {
       Told m before qs u → ((c : ℕ) (t : ℤ) → LastTarget c rs t → LastTarget c qs t) → Part C m before qs u row
   replaced_part {m} {qs} {u} x calm blocks axes told targets = record {
     told = told;
-    lines = subst (Lines u.table.blocks) (sym axes) (subst (λ bs. Lines bs s.table.axes) (sym blocks) (record {
+    lines = rw (axes, blocks) (record {
       size = p.lines.size;
       queues = p.lines.queues;
       each = λ d. line_replaced b x (omega (arith, p.told.good.size, hb)) idle calm (p.lines.each d);
-    }));
-    fits = subst (λ axs. (d : ℕ) → Fits u.table.blocks (axle axs d)) (sym axes) (subst (λ bs. (d : ℕ) → Fits bs (axle s.table.axes d)) (sym blocks) (λ d.
+    });
+    fits = rw (axes, blocks) (λ d.
         let old = p.fits d in
         record {
           rests = old.rests;
-          under = λ c e. old.under c e ∙ ap (λ (z : Block). state_under z.command) (sym (active_other d c x e));
+          under = λ c e. rw (active_other d c x e) (old.under c e);
           alone = old.alone;
           stop = old.stop;
-        }));
-    aims = subst (λ axs. (d : ℕ) → C d → Aims qs u.table.blocks (axle axs d) (row.at d)) (sym axes) (subst (λ bs. (d : ℕ) → C d → Aims qs bs (axle s.table.axes d) (row.at d)) (sym blocks) (λ d ok.
+        });
+    aims = rw (axes, blocks) (λ d ok.
         record {
           aimed = λ c e m.
-              let old = (p.aims d ok).aimed c e (ap (λ (z : Block). is_move z.command) (sym (active_other d c x e)) ∙ m) in
+              let old = (p.aims d ok).aimed c e (rw (active_other d c x e) at m) in
               record { target = old.target; last = targets c old.target old.last; way = old.way };
-        }));
+        });
   }
 
   pub accepted_part :
@@ -197,16 +174,9 @@ module _ {C : ℕ → Type 0} {n : ℕ} {before : List ℕ} {rs : List Record} {
       Part C (1 + n) before (Accept a b (command_of i) mode ∷ rs) (accepted s a b i mode) row
   unfolding accepted
   accepted_part a i mode ha may =
-      replaced_part (block_of a i mode) (fresh i) refl refl (told_accepted p.told a b i mode ha hb may idle) (λ c t last. LastTarget.before refl last)
-    where
-      fresh : (j : Instruction) → (block_of a j mode).status ≡ Active → ⊥
-      fresh (instruction.Absolute q v c) e = let z : ◌≡◌ {A = ℕ} 0 1 = cc in omega arith
-      fresh (instruction.Relative q v c) e = let z : ◌≡◌ {A = ℕ} 0 1 = cc in omega arith
-      fresh (instruction.Velocity q c) e = let z : ◌≡◌ {A = ℕ} 0 1 = cc in omega arith
-      fresh (instruction.Halt c) e = let z : ◌≡◌ {A = ℕ} 0 1 = cc in omega arith
-      fresh (instruction.Stop c) e = let z : ◌≡◌ {A = ℕ} 0 1 = cc in omega arith
+      replaced_part (block_of a i mode) (λ e. grind arith) refl refl (told_accepted p.told a b i mode ha hb may idle) (λ c t last. LastTarget.before refl last)
 
   pub idled_part : Part C n before rs (idled s b) row
   idled_part =
-      replaced_part idle_block (λ e. let z : ◌≡◌ {A = ℕ} 0 1 = cc in omega arith) refl refl
+      replaced_part idle_block (λ e. cc) refl refl
       (record { reads = p.told.reads; good = good_idled p.told.good b hb idle; chained = p.told.chained }) (λ c t last. last)

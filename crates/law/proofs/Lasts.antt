@@ -1,12 +1,10 @@
 -- The last accept of a block is that of its open round; which ends are done. Assumes nothing.
-use Rattle.std.proofs.Common.{◌≡◌, ℕ, Bool, true, false, cond, eqb, List, ◌∷◌, Some, Option, refl}
-use Rattle.std.proofs.lemmas.Bool.{eqb-false, ne_eqb, cond-false, true≢false}
+use Rattle.std.proofs.Common.{◌≡◌, ℕ, false, List, ◌∷◌, Some, Option, refl, arith}
+use Rattle.std.proofs.lemmas.Bool.{eqb-false}
 use Rattle.records.specs.declared.kinds.Record.{Record}
 use Rattle.records.specs.declared.kinds.Record.TheVariants.{End}
 use Rattle.records.specs.declared.motion.Command.{Command}
 use Rattle.records.specs.declared.outcome.Outcome.{Outcome}
-use Rattle.records.specs.declared.outcome.Outcome.TheVariants.{Done, Aborted, Error}
-use Rattle.totals.specs.Counts.{done_one}
 use Rattle.law.specs.Laws.Accounts.{Rounds, is_done}
 use Rattle.law.specs.Laws.Accounts.Rounds.{other, accepted, begun}
 use Rattle.law.specs.Laws.Accounts.Stage.{waits, runs}
@@ -39,14 +37,8 @@ accept_before e (LastAccept.before p l) = l
 
 -- the end of another block is not done for this one
 pub done_end_other : (c a b : ℕ) (o : Outcome) → (b ≡ c → ⊥) → done_end c (End a b o) ≡ 0
-done_end_other c a b o ne = cond-false (eqb b c) (done_one o) 0 (ne_eqb b c ne)
-
-nothing : (t : Bool) → ◌≡◌ {A = ℕ} (cond t 0 0) 0
-nothing true = refl
-nothing false = refl
+done_end_other c a b o ne = grind arith
 
 -- nor is an end that is not done
 pub done_end_not : (c a b : ℕ) (o : Outcome) → is_done o ≡ false → done_end c (End a b o) ≡ 0
-done_end_not c a b Done e = absurd (true≢false e)
-done_end_not c a b Aborted e = nothing (eqb b c)
-done_end_not c a b (Error cause) e = nothing (eqb b c)
+done_end_not c a b o e = grind arith

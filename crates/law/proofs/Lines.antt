@@ -1,7 +1,8 @@
 -- What an axis says of its blocks, and which blocks a move leaves as they are. Assumes nothing.
-use Rattle.std.proofs.Common.{◌≡◌, ℕ, ◌<◌, ◌≤◌, Bool, true, false, List, [], length, get_or, set, Some, None, Option, sym, refl, ap, ◌∙◌, subst, inl, inr, arith, length-set}
-use Rattle.std.proofs.lemmas.List.{get_or-set_same, get_or-set_other}
-use Rattle.std.proofs.lemmas.Bool.{cases_eq, true≢false}
+use Rattle.std.proofs.Common.{◌≡◌, ℕ, ◌<◌, ◌≤◌, Bool, true, false, List, [], length, get_or, set, replicate, Some, None, Option, sym, refl, ◌∙◌, inl, inr, arith, length-set}
+use Rattle.std.proofs.lemmas.List.{get_or-set_same, get_or-set_other, get_or-replicate, get_or_past}
+use Rattle.std.proofs.lemmas.Grind.{get_or-set_at}
+use Rattle.std.proofs.lemmas.Bool.{cases_eq, cases_lt}
 use Rattle.records.specs.declared.motion.Command.{Command}
 use Rattle.records.specs.declared.motion.Command.TheVariants as command
 use Rattle.moves.specs.declared.table.Axis.{Axis}
@@ -9,7 +10,7 @@ use Rattle.moves.specs.declared.table.Block.{Block}
 use Rattle.moves.specs.declared.table.Status.{Status}
 use Rattle.moves.specs.declared.table.Status.TheVariants.{Waiting, Active}
 use Rattle.moves.specs.Blocks.{is_busy, with_status}
-use Rattle.moves.specs.Sheet.{idle_block, disabled_axis}
+use Rattle.moves.specs.Sheet.{idle_block, disabled_axis, new_table}
 
 -- the block of a number
 abbrev pub nth : List Block → ℕ → Block
@@ -51,8 +52,8 @@ pub record Lines (bs : List Block) (axs : List Axis) : Type 0 where
 pub at_same : {bs : List Block} {b a : ℕ} {status : Status} (cs : List Block) → nth cs b ≡ nth bs b → At bs b a status → At cs b a status
 at_same cs e at = record {
   within = at.within;
-  stands = ap (λ (x : Block). x.status) e ∙ at.stands;
-  axis = ap (λ (x : Block). x.axis) e ∙ at.axis;
+  stands = cc;
+  axis = cc;
 }
 
 -- ---- what a move of the axis a leaves
@@ -75,16 +76,9 @@ leaves_then one two = record {
 
 pub leaves_status : (a b : ℕ) (bs : List Block) (status : Status) → (status ≡ Waiting → ⊥) → b < length bs → (nth bs b).axis ≡ a → Leaves a bs (set bs b (with_status (nth bs b) status))
 leaves_status a b bs status calm h e = record {
-  waits = λ c i. elim (cases_eq c b) [
-    | inl q ↦ absurd (calm (sym (ap (λ (x : Block). x.status) (get_or-set_same bs b (with_status (nth bs b) status) idle_block h)) ∙ ap (λ k. (nth (set bs b (with_status (nth bs b) status)) k).status) (sym q) ∙ i))
-    | inr ne ↦ sym (ap (λ (x : Block). x.status) (get_or-set_other bs b c (with_status (nth bs b) status) idle_block ne)) ∙ i
-  ];
-  axes = λ c. elim (cases_eq c b) [
-    | inl i ↦ subst (λ k. (nth (set bs b (with_status (nth bs b) status)) k).axis ≡ (nth bs k).axis) (sym i)
-        (ap (λ (x : Block). x.axis) (get_or-set_same bs b (with_status (nth bs b) status) idle_block h))
-    | inr ne ↦ ap (λ (x : Block). x.axis) (get_or-set_other bs b c (with_status (nth bs b) status) idle_block ne)
-  ];
-  others = λ c ne. get_or-set_other bs b c (with_status (nth bs b) status) idle_block (λ i. ne (ap (λ k. (nth bs k).axis) i ∙ e));
+  waits = λ c i. grind (arith, get_or-set_at, get_or-set_other);
+  axes = λ c. grind (arith, get_or-set_at, get_or-set_other);
+  others = λ c ne. grind (arith, get_or-set_other);
 }
 
 -- the line of another axis stays
@@ -92,7 +86,7 @@ pub line_left : {a d : ℕ} {bs cs : List Block} {y : Axis} → Leaves a bs cs �
 line_left {d = d} {bs = bs} {cs = cs} {y = y} left ne line = record {
   running = λ b e. let at = line.running b e in at_same cs (same at) at;
   waiting = λ k h. let at = line.waiting k h in at_same cs (same at) at;
-  gentle = λ k h. ap (λ (x : Block). is_stop x.command) (same (line.waiting k h)) ∙ line.gentle k h;
+  gentle = λ k h. rw (same (line.waiting k h)) (line.gentle k h);
   apart = line.apart;
   only = λ b at. line.only b (at_same bs (sym (left.others b (λ e. ne (sym at.axis ∙ left.axes b ∙ e)))) at);
   few = line.few;
@@ -103,34 +97,32 @@ line_left {d = d} {bs = bs} {cs = cs} {y = y} left ne line = record {
 
 -- the line depends on the axis's commands only
 pub line_same : {bs : List Block} {a : ℕ} {y : Axis} (z : Axis) → z.active ≡ y.active → z.queue ≡ y.queue → z.waiting ≡ y.waiting → Line bs a y → Line bs a z
-line_same {bs} {a} {y} z e f g line = record {
-  running = λ b i. line.running b (sym e ∙ i);
-  waiting = λ k h. subst (λ q. At bs (get_or q k 0) a Waiting) (sym f) (line.waiting k (subst (λ n. k < n) g h));
-  gentle = λ k h. subst (λ q. is_stop (nth bs (get_or q k 0)).command ≡ false) (sym f) (line.gentle k (subst (λ n. k < n) g h));
-  apart = λ j k h i q. line.apart j k h (subst (λ n. k < n) g i) (subst (λ r. get_or r j 0 ≡ get_or r k 0) f q);
+line_same z e f g line = record {
+  running = λ b i. line.running b cc;
+  waiting = λ k h. rw f (line.waiting k (omega (arith, g)));
+  gentle = λ k h. rw f (line.gentle k (omega (arith, g)));
+  apart = λ j k h i q. line.apart j k h (omega (arith, g)) (rw f at q);
   only = λ b at. e ∙ line.only b at;
-  few = subst (λ n. n ≤ 4) (sym g) line.few;
+  few = omega (arith, g, line.few);
 }
 
 -- two statuses that differ are not those of one block
 pub apart_by : {bs : List Block} {b c a d : ℕ} → At bs b a Active → At bs c d Waiting → b ≡ c → ⊥
-apart_by {bs = bs} r w e =
-    let z : Active ≡ Waiting = sym r.stands ∙ ap (λ k. (nth bs k).status) e ∙ w.stands in
-    let n : ◌≡◌ {A = ℕ} 0 1 = cc in omega arith
+apart_by r w e = cc
 
 -- a block that is not busy is on no line
 pub not_busy : {bs : List Block} {b c a : ℕ} {status : Status} → is_busy status ≡ true → At bs c a status → is_busy (nth bs b).status ≡ false → c ≡ b → ⊥
-not_busy {bs = bs} busy at idle e = true≢false (sym busy ∙ ap is_busy (sym at.stands) ∙ ap (λ k. is_busy (nth bs k).status) e ∙ idle)
+not_busy busy at idle e = cc
 
 -- a block that is not busy is written anew, and is not active then
 pub line_replaced : {bs : List Block} {d : ℕ} {y : Axis} (b : ℕ) (x : Block) → b < length bs → is_busy (nth bs b).status ≡ false → (x.status ≡ Active → ⊥) → Line bs d y → Line (set bs b x) d y
 line_replaced {bs} {d} {y} b x h idle calm line = record {
   running = λ c e. let at = line.running c e in at_same (set bs b x) (same at refl) at;
   waiting = λ k i. let at = line.waiting k i in at_same (set bs b x) (same at refl) at;
-  gentle = λ k i. ap (λ (z : Block). is_stop z.command) (same (line.waiting k i) refl) ∙ line.gentle k i;
+  gentle = λ k i. rw (same (line.waiting k i) refl) (line.gentle k i);
   apart = line.apart;
   only = λ c at. elim (cases_eq c b) [
-    | inl e ↦ absurd (calm (sym (ap (λ (z : Block). z.status) (get_or-set_same bs b x idle_block h)) ∙ ap (λ k. (nth (set bs b x) k).status) (sym e) ∙ at.stands))
+    | inl e ↦ let here = get_or-set_same bs b x idle_block h in absurd (calm cc)
     | inr ne ↦ line.only c (at_same bs (sym (get_or-set_other bs b c x idle_block ne)) at)
   ];
   few = line.few;
@@ -142,7 +134,7 @@ line_replaced {bs} {d} {y} b x h idle calm line = record {
 -- an axis without commands
 pub line_none : (bs : List Block) (a : ℕ) (y : Axis) → y.active ≡ None → y.waiting ≡ 0 → ((b : ℕ) → At bs b a Active → ⊥) → Line bs a y
 line_none bs a y e w none = record {
-  running = λ b i. absurd (let z : ◌≡◌ {A = ℕ} 0 1 = cc in omega arith);
+  running = λ b i. cc;
   waiting = λ k h. absurd (omega (arith, w));
   gentle = λ k h. absurd (omega (arith, w));
   apart = λ j k h i. absurd (omega (arith, w));
@@ -152,11 +144,17 @@ line_none bs a y e w none = record {
 
 -- ---- one axis is written anew
 
-pub each_axle : (P : ℕ → Axis → Type 0) (axs : List Axis) (a : ℕ) (y : Axis) → length axs ≡ 8 → a < 8 → P a y → ((d : ℕ) → (d ≡ a → ⊥) → P d (axle axs d)) → (d : ℕ) → P d (axle (set axs a y) d)
-each_axle P axs a y size ha here there d = elim (cases_eq d a) [
-  | inl e ↦ subst (λ k. P k (axle (set axs a y) k)) (sym e) (subst (P a) (sym (get_or-set_same axs a y (disabled_axis []) (omega arith))) here)
-  | inr ne ↦ subst (P d) (sym (get_or-set_other axs a d y (disabled_axis []) ne)) (there d ne)
+-- one element of a list becomes another
+pub each_set :
+    {X : Type 0} (P : ℕ → X → Type 0) (xs : List X) (i : ℕ) (y d : X) → i < length xs → P i y →
+    ((k : ℕ) → (k ≡ i → ⊥) → P k (get_or xs k d)) → (k : ℕ) → P k (get_or (set xs i y) k d)
+each_set P xs i y d h here there k = elim (cases_eq k i) [
+  | inl e ↦ rw (e, get_or-set_same xs i y d h) here
+  | inr ne ↦ rw (get_or-set_other xs i k y d ne) (there k ne)
 ]
+
+pub each_axle : (P : ℕ → Axis → Type 0) (axs : List Axis) (a : ℕ) (y : Axis) → length axs ≡ 8 → a < 8 → P a y → ((d : ℕ) → (d ≡ a → ⊥) → P d (axle axs d)) → (d : ℕ) → P d (axle (set axs a y) d)
+each_axle P axs a y size ha = each_set P axs a y (disabled_axis []) (omega arith)
 
 pub lines_with : {a : ℕ} {bs cs : List Block} {axs : List Axis} → Lines bs axs → Leaves a bs cs → a < 8 → (y : Axis) → length y.queue ≡ 4 → Line cs a y → Lines cs (set axs a y)
 lines_with {a} {bs} {cs} {axs} lines left ha y long line = record {
@@ -164,3 +162,11 @@ lines_with {a} {bs} {cs} {axs} lines left ha y long line = record {
   queues = λ d hd. each_axle (λ k z. k < 8 → length z.queue ≡ 4) axs a y lines.size ha (λ h. long) (λ k ne. lines.queues k) d hd;
   each = each_axle (λ k z. Line cs k z) axs a y lines.size ha line (λ k ne. line_left left ne (lines.each k));
 }
+
+-- ---- the axes of a new table, and past its last
+
+pub fresh_axle : (P : Axis → Type 0) → P (disabled_axis (replicate 4 0)) → P (disabled_axis []) → (d : ℕ) → P (axle new_table.axes d)
+fresh_axle P p q d = elim (cases_lt d 8) [
+  | inl h ↦ rw (get_or-replicate 8 d (disabled_axis (replicate 4 0)) (disabled_axis []) h) p
+  | inr h ↦ rw (get_or_past new_table.axes d (disabled_axis []) h) q
+]

@@ -1,5 +1,5 @@
 -- The whole invariant of a sheet and a row, and the same while the axis a is on its turn. Assumes nothing.
-use Rattle.std.proofs.Common.{◌≡◌, ℕ, ◌<◌, true, List, length, set, ℤ, ◌-ℤ◌, Some, None, sym, refl, ap, ◌∙◌, subst}
+use Rattle.std.proofs.Common.{◌≡◌, ℕ, ◌<◌, true, List, length, set, ℤ, ◌-ℤ◌, Some, None, sym, refl, ◌∙◌}
 use Rattle.segment.specs.declared.axis.AxisLook.{AxisLook}
 use Rattle.segment.specs.Row.{Row}
 use Rattle.records.specs.declared.kinds.Record.{Record}
@@ -69,21 +69,27 @@ Targets a bs rs qs = (b : ℕ) → ((nth bs b).axis ≡ a → (nth bs b).status 
 fits_left : {a d : ℕ} {bs cs : List Block} {y : Axis} → Leaves a bs cs → (d ≡ a → ⊥) → Line bs d y → Fits bs y → Fits cs y
 fits_left left ne line fits = record {
   rests = fits.rests;
-  under = λ b e. fits.under b e ∙ ap (λ (x : Block). state_under x.command) (sym (left.others b (λ i. ne (sym (line.running b e).axis ∙ i))));
+  under = λ b e. rw (left.others b (λ i. ne (sym (line.running b e).axis ∙ i))) (fits.under b e);
   alone = fits.alone;
   stop = fits.stop;
 }
 
 aims_left : {a d : ℕ} {bs cs : List Block} {rs qs : List Record} {y : Axis} {look seen : AxisLook} → Leaves a bs cs → Targets a bs rs qs → (d ≡ a → ⊥) → Line bs d y → seen.demand ≡ look.demand → Aims rs bs y look → Aims qs cs y seen
-aims_left {bs = bs} {qs = qs} {y = y} left targets ne line same aims = record {
+aims_left {bs = bs} left targets ne line same aims = record {
   aimed = λ b e move.
       let own : (nth bs b).axis ≡ _ → ⊥ = λ i. ne (sym (line.running b e).axis ∙ i) in
-      let old = aims.aimed b e (ap (λ (x : Block). is_move x.command) (sym (left.others b own)) ∙ move) in
+      let old = aims.aimed b e (rw (left.others b own) at move) in
       record {
         target = old.target;
         last = targets b (λ i _. own i) old.target old.last;
-        way = subst (λ p. y.distance_to_go ≡ old.target -ℤ p) (sym same) old.way;
+        way = rw same old.way;
       };
+}
+
+-- a move leads on to its target where the demand and its command stay
+pub aims_demand : {rs : List Record} {bs : List Block} {y z : Axis} {look seen : AxisLook} → z.active ≡ y.active → z.distance_to_go ≡ y.distance_to_go → seen.demand ≡ look.demand → Aims rs bs y look → Aims rs bs z seen
+aims_demand e f g aims = record {
+  aimed = λ b i m. let old = aims.aimed b (sym e ∙ i) m in record { target = old.target; last = old.last; way = rw (f, g) old.way };
 }
 
 -- ---- a move of the axis a, which goes on with its turn
@@ -93,13 +99,13 @@ module _ {a : ℕ} {C : ℕ → Type 0} {n : ℕ} {before : List ℕ} {rs : List
       {m : ℕ} {qs : List Record} {u : Sheet} → Told m before qs u → (y : Axis) → u.table.axes ≡ set s.table.axes a y → a < 8 →
       Leaves a s.table.blocks u.table.blocks → length y.queue ≡ 4 → Line u.table.blocks a y →
       Targets a s.table.blocks rs qs → Open a C m before qs u row
-  open_on {m} {qs} {u} t y axes ha left long line targets = record {
+  open_on {qs = qs} {u = u} t y axes ha left long line targets = record {
     told = t;
-    lines = subst (Lines u.table.blocks) (sym axes) (lines_with o.lines left ha y long line);
-    fits = subst (λ axs. (d : ℕ) → (d ≡ a → ⊥) → Fits u.table.blocks (axle axs d)) (sym axes)
+    lines = rw axes (lines_with o.lines left ha y long line);
+    fits = rw axes
         (each_axle (λ d z. (d ≡ a → ⊥) → Fits u.table.blocks z) s.table.axes a y o.lines.size ha (λ ne. absurd (ne refl))
         (λ d ne _. fits_left left ne (o.lines.each d) (o.fits d ne)));
-    aims = subst (λ axs. (d : ℕ) → (d ≡ a → ⊥) → C d → Aims qs u.table.blocks (axle axs d) (row.at d)) (sym axes)
+    aims = rw axes
         (each_axle (λ d z. (d ≡ a → ⊥) → C d → Aims qs u.table.blocks z (row.at d)) s.table.axes a y o.lines.size ha (λ ne. absurd (ne refl))
         (λ d ne _ c. aims_left left targets ne (o.lines.each d) refl (o.aims d ne c)));
   }
@@ -111,13 +117,13 @@ module _ {a : ℕ} {C : ℕ → Type 0} {n : ℕ} {before : List ℕ} {rs : List
       Targets a s.table.blocks rs qs → Fits u.table.blocks y →
       (after : Row) → ((d : ℕ) → (d ≡ a → ⊥) → (after.at d).demand ≡ (row.at d).demand) →
       Aims qs u.table.blocks y (after.at a) → Part (But a C) m before qs u after
-  close_on {m} {qs} {u} t y axes ha left long line targets fits after same aims = record {
+  close_on {qs = qs} {u = u} t y axes ha left long line targets fits after same aims = record {
     told = t;
-    lines = subst (Lines u.table.blocks) (sym axes) (lines_with o.lines left ha y long line);
-    fits = subst (λ axs. (d : ℕ) → Fits u.table.blocks (axle axs d)) (sym axes)
+    lines = rw axes (lines_with o.lines left ha y long line);
+    fits = rw axes
         (each_axle (λ d z. Fits u.table.blocks z) s.table.axes a y o.lines.size ha fits
         (λ d ne. fits_left left ne (o.lines.each d) (o.fits d ne)));
-    aims = subst (λ axs. (d : ℕ) → But a C d → Aims qs u.table.blocks (axle axs d) (after.at d)) (sym axes)
+    aims = rw axes
         (each_axle (λ d z. But a C d → Aims qs u.table.blocks z (after.at d)) s.table.axes a y o.lines.size ha (λ _. aims)
         (λ d ne c. aims_left left targets ne (o.lines.each d) (same d ne) (o.aims d ne (c ne))));
   }

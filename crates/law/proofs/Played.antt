@@ -1,5 +1,5 @@
 -- A row of orders, one more at a time. Assumes nothing.
-use Rattle.std.proofs.Common.{◌≡◌, ℕ, ◌+◌, ◌<◌, ◌≤◌, List, [], ◌∷◌, ◌++◌, length, get_or, take, sym, refl, ap, ◌∙◌, subst, take_all}
+use Rattle.std.proofs.Common.{◌≡◌, ℕ, ◌+◌, ◌<◌, List, [], ◌∷◌, length, get_or, take, refl}
 use Rattle.std.proofs.lemmas.List.{take_more}
 use Rattle.segment.specs.Row.{Row, SoundRow}
 use Rattle.trail.specs.declared.memory.Trail.{Trail}
@@ -26,13 +26,10 @@ played_more start orders i default r w w' h p s =
     let run : Run start (e ∷ p.history) w' = called e p.run s in
     record {
       history = e ∷ p.history;
-      given = ap (λ os. os ++ (get_or orders i default ∷ [])) p.given ∙ sym (take_more orders i default h);
+      given = rw (p.given, take_more orders i default h);
       run = run;
       throughout = throughout run;
     }
-
-pub played_all : (start : World) (orders : List Order) (i : ℕ) (w : World) → length orders ≤ i → Played start (take i orders) w → Played start orders w
-played_all start orders i w h p = subst (λ os. Played start os w) (take_all i orders h) p
 
 -- a sequencer just made and an emptied trail are a new world
 pub new_is :

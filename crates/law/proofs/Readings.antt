@@ -1,5 +1,5 @@
 -- One word more: the records that are read, and what their ends count. Assumes nothing.
-use Rattle.std.proofs.Common.{◌≡◌, ℕ, ◌+◌, List, [], ◌∷◌, ◌++◌, Some, None, Option, sym, refl, ap, ◌∙◌, subst, arith}
+use Rattle.std.proofs.Common.{◌≡◌, ℕ, ◌+◌, List, [], ◌∷◌, ◌++◌, Some, None, Option, refl, arith}
 use Rattle.std.proofs.lemmas.List.{append-nil, append_assoc}
 use Rattle.records.specs.declared.kinds.Record.{Record}
 use Rattle.records.specs.declared.outcome.Outcome.{Outcome}
@@ -24,28 +24,17 @@ reads_none = record { whole = refl; told = refl }
 
 -- ---- one word more
 
--- a word in front is read, and nothing is bad behind it
-record Front (o : Option Record) (others : Option ℕ) : Type 0 where
-  first : (x : Record) × (o ≡ Some x)
-  rest : others ≡ None
-
-front : (o : Option Record) (others : Option ℕ) → first_of o others ≡ None → Front o others
-front None others e = let z : ◌≡◌ {A = ℕ} 0 1 = cc in absurd (omega arith)
-front (Some x) None e = record { first = (x, refl); rest = refl }
-front (Some x) (Some k) e = let z : ◌≡◌ {A = ℕ} 0 1 = cc in absurd (omega arith)
+first_more : (o : Option Record) (others more : Option ℕ) → (others ≡ None → more ≡ None) → first_of o others ≡ None → first_of o more ≡ None
+first_more o others more step e = grind arith
 
 first_bad_push :
     (ws : List ℕ) (w : ℕ) (x : Record) → first_bad ws ≡ None → reading w ≡ Some x → first_bad (ws ++ (w ∷ [])) ≡ None
-first_bad_push [] w x whole e = ap (λ o. first_of o None) e
-first_bad_push (v ∷ vs) w x whole e =
-    let f = front (reading v) (first_bad vs) whole in
-    ap (first_of (reading v)) (first_bad_push vs w x f.rest e) ∙ ap (λ o. first_of o None) f.first.1
+first_bad_push [] w x whole e = rw e
+first_bad_push (v ∷ vs) w x whole e = first_more (reading v) (first_bad vs) _ (λ rest. first_bad_push vs w x rest e) whole
 
 records_push : (ws : List ℕ) (w : ℕ) → records_of (ws ++ (w ∷ [])) ≡ read_one (reading w) ++ records_of ws
-records_push [] w = sym (append-nil (read_one (reading w)))
-records_push (v ∷ vs) w =
-    ap (λ l. l ++ read_one (reading v)) (records_push vs w)
-    ∙ append_assoc (read_one (reading w)) (records_of vs) (read_one (reading v))
+records_push [] w = simp append-nil
+records_push (v ∷ vs) w = rw (records_push vs w, append_assoc)
 
 -- a lawful record is written
 pub reads_more :
@@ -55,16 +44,14 @@ reads_more {words} {rs} reads x lawful =
     let back = read_back x lawful in
     record {
       whole = first_bad_push words (word x) x reads.whole back;
-      told =
-          records_push words (word x) ∙ ap (λ o. read_one o ++ records_of words) back ∙ ap (λ l. x ∷ l) reads.told;
+      told = rw (records_push words (word x), back, reads.told);
     }
 
 -- the same, where the words stand behind others
 pub reads_after :
     (before words : List ℕ) {rs : List Record} → Reads (before ++ words) rs → (x : Record) → Lawful x →
     Reads (before ++ (words ++ (word x ∷ []))) (x ∷ rs)
-reads_after before words {rs} reads x lawful =
-    subst (λ ws. Reads ws (x ∷ rs)) (append_assoc before words (word x ∷ [])) (reads_more reads x lawful)
+reads_after before words reads x lawful = rw (← append_assoc before words (word x ∷ [])) (reads_more reads x lawful)
 
 -- ---- what the ends count
 
@@ -85,4 +72,4 @@ ends_records one (w ∷ ws) =
 -- the ends of the words are those of their records
 pub ends_read :
     (one : Outcome → ℕ) {words : List ℕ} {rs : List Record} → Reads words rs → ends one words ≡ ends_in one rs
-ends_read one {words} reads = ends_records one words ∙ ap (ends_in one) reads.told
+ends_read one {words} reads = rw (ends_records one words, reads.told)

@@ -1,5 +1,5 @@
 -- The active command of an axis ends, and its turn goes on. Assumes nothing.
-use Rattle.std.proofs.Common.{◌≡◌, ℕ, ◌<◌, true, List, [], ◌∷◌, get_or, set, ℤ, Some, sym, refl, ap, ◌∙◌, inl, arith}
+use Rattle.std.proofs.Common.{◌≡◌, ℕ, ◌<◌, true, List, [], ◌∷◌, get_or, set, ℤ, Some, sym, refl, ap, inl, arith}
 use Rattle.std.proofs.lemmas.List.{get_or-set_same, get_or-set_other}
 use Rattle.segment.specs.Row.{Row}
 use Rattle.records.specs.declared.kinds.Record.{Record}
@@ -15,7 +15,7 @@ use Rattle.moves.specs.Moves.{ended, retired, finished}
 use Rattle.moves.specs.Sheet.{Sheet, idle_block, disabled_axis}
 use Rattle.law.specs.Readings.{LastTarget}
 use Rattle.law.proofs.Ends.{ended_active_ones, ended_other, ended_axes, ended_leaves}
-use Rattle.law.proofs.Lines.{nth, axle, At, Line, Leaves, at_same, apart_by, is_stop}
+use Rattle.law.proofs.Lines.{nth, axle, At, Line, Leaves, at_same, apart_by}
 use Rattle.law.proofs.Parts.{Open, open_on}
 use Rattle.law.proofs.Told.{Told, told_ended, told_placed, told_kept}
 
@@ -27,8 +27,7 @@ module _ {a : ℕ} {C : ℕ → Type 0} {n : ℕ} {before : List ℕ} {rs : List
   pub none_runs : (c : ℕ) → At (ended s a b o).table.blocks c a Active → ⊥
   none_runs c z =
       let old = ended_active_ones turn.told a b o own.within z in
-      let e : Some b ≡ Some c = sym active ∙ (turn.lines.each a).only c old.0 in
-      let i : b ≡ c = cc in old.1 (sym i)
+      let e = (turn.lines.each a).only c old.0 in old.1 cc
 
   -- one that waits is not the one that ended
   pub still_waits : (k : ℕ) → k < (axle s.table.axes a).waiting → nth (ended s a b o).table.blocks (get_or (axle s.table.axes a).queue k 0) ≡ nth s.table.blocks (get_or (axle s.table.axes a).queue k 0)
@@ -39,9 +38,9 @@ module _ {a : ℕ} {C : ℕ → Type 0} {n : ℕ} {before : List ℕ} {rs : List
       let line = turn.lines.each a in
       let cs = (ended s a b o).table.blocks in
       record {
-        running = λ c e. absurd (let z : ◌≡◌ {A = ℕ} 0 1 = cc in omega arith);
+        running = λ c e. cc;
         waiting = λ k h. at_same cs (still_waits k h) (line.waiting k h);
-        gentle = λ k h. ap (λ (x : Block). is_stop x.command) (still_waits k h) ∙ line.gentle k h;
+        gentle = λ k h. rw (still_waits k h) (line.gentle k h);
         apart = line.apart;
         only = λ c z. absurd (none_runs c z);
         few = line.few;
@@ -51,10 +50,10 @@ module _ {a : ℕ} {C : ℕ → Type 0} {n : ℕ} {before : List ℕ} {rs : List
   leaves_after = ended_leaves turn.told a b o own.within own.axis
 
   same_state : (axle s.table.axes a).state ≡ (axle (ended s a b o).table.axes a).state
-  same_state = ap (λ axs. (axle axs a).state) (sym (ended_axes turn.told a b o own.within))
+  same_state = rw (ended_axes turn.told a b o own.within)
 
   axes_after : set (ended s a b o).table.axes a (without_active (axle s.table.axes a)) ≡ set s.table.axes a (without_active (axle s.table.axes a))
-  axes_after = ap (λ axs. set axs a (without_active (axle s.table.axes a))) (ended_axes turn.told a b o own.within)
+  axes_after = rw (ended_axes turn.told a b o own.within)
 
   told_after : lawful_outcome o ≡ true → Told n before (End a b o ∷ rs) (ended s a b o)
   told_after lawful = told_ended turn.told a b o ha own.within lawful own.axis (inl own.stands)
@@ -68,15 +67,11 @@ module _ {a : ℕ} {C : ℕ → Type 0} {n : ℕ} {before : List ℕ} {rs : List
 
   pub retired_own : axle (retired s a b o).table.axes a ≡ without_active (axle s.table.axes a)
   unfolding retired
-  retired_own = ap (λ axs. axle axs a) axes_after ∙ get_or-set_same s.table.axes a (without_active (axle s.table.axes a)) (disabled_axis []) (omega (arith, turn.lines.size))
+  retired_own = rw axes_after (get_or-set_same s.table.axes a _ (disabled_axis []) (omega (arith, turn.lines.size)))
 
   pub retired_others : (d : ℕ) → (d ≡ a → ⊥) → axle (retired s a b o).table.axes d ≡ axle s.table.axes d
   unfolding retired
-  retired_others d ne = ap (λ axs. axle axs d) axes_after ∙ get_or-set_other s.table.axes a d (without_active (axle s.table.axes a)) (disabled_axis []) ne
-
-  pub retired_blocks : (retired s a b o).table.blocks ≡ (ended s a b o).table.blocks
-  unfolding retired
-  retired_blocks = refl
+  retired_others d ne = rw axes_after (get_or-set_other s.table.axes a d _ (disabled_axis []) ne)
 
   pub retired_leaves : Leaves a s.table.blocks (retired s a b o).table.blocks
   unfolding retired
@@ -92,20 +87,16 @@ module _ {a : ℕ} {C : ℕ → Type 0} {n : ℕ} {before : List ℕ} {rs : List
 
   pub finished_own : axle (finished s a b place).table.axes a ≡ without_active (axle s.table.axes a)
   unfolding finished
-  finished_own = ap (λ axs. axle axs a) (axes_after turn ha b active Done) ∙ get_or-set_same s.table.axes a (without_active (axle s.table.axes a)) (disabled_axis []) (omega (arith, turn.lines.size))
+  finished_own = rw (axes_after turn ha b active Done) (get_or-set_same s.table.axes a _ (disabled_axis []) (omega (arith, turn.lines.size)))
 
   pub finished_others : (d : ℕ) → (d ≡ a → ⊥) → axle (finished s a b place).table.axes d ≡ axle s.table.axes d
   unfolding finished
-  finished_others d ne = ap (λ axs. axle axs d) (axes_after turn ha b active Done) ∙ get_or-set_other s.table.axes a d (without_active (axle s.table.axes a)) (disabled_axis []) ne
+  finished_others d ne = rw (axes_after turn ha b active Done) (get_or-set_other s.table.axes a d _ (disabled_axis []) ne)
 
   -- the block that ended is done
   pub finished_done : (nth (finished s a b place).table.blocks b).status ≡ status.Done
   unfolding finished ended
   finished_done = ap (λ (x : Block). x.status) (get_or-set_same s.table.blocks b _ idle_block (omega (arith, turn.told.good.size, (own turn ha b active Done).within)))
-
-  pub finished_blocks : (finished s a b place).table.blocks ≡ (ended s a b Done).table.blocks
-  unfolding finished
-  finished_blocks = refl
 
   pub finished_leaves : Leaves a s.table.blocks (finished s a b place).table.blocks
   unfolding finished

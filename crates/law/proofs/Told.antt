@@ -1,10 +1,9 @@
 -- Words, blocks and states stay tied while a move changes the table and writes its words. Assumes nothing.
-use Rattle.std.proofs.Common.{◌≡◌, ℕ, ◌+◌, ◌^◌, ◌<◌, Bool, true, false, not, eqb, ltb, ◌⊎◌, List, ◌∷◌, ◌++◌, ℤ, Some, None, Option, sym, refl, arith}
-use Rattle.std.proofs.lemmas.Bool.{lt-ltb, and_from, not_from_false, true≢false}
+use Rattle.std.proofs.Common.{◌≡◌, ℕ, ◌+◌, ◌^◌, ◌<◌, Bool, true, false, eqb, ◌⊎◌, List, ◌∷◌, ◌++◌, ℤ, Some, None, Option, refl, arith}
+use Rattle.std.proofs.lemmas.Bool.{lt-ltb}
 use Rattle.records.specs.declared.kinds.Record.{Record}
 use Rattle.records.specs.declared.kinds.Record.TheVariants.{Accept, Begin, End, State, Place, Cycle, Target}
 use Rattle.records.specs.declared.motion.AxisState.{AxisState}
-use Rattle.records.specs.declared.motion.AxisState.TheVariants.{Disabled, Standstill, Stopping, DiscreteMotion, ContinuousMotion, ErrorStop}
 use Rattle.records.specs.declared.motion.BufferMode.{BufferMode}
 use Rattle.records.specs.declared.outcome.Outcome.{Outcome}
 use Rattle.records.specs.Numbers.{state_number}
@@ -30,7 +29,7 @@ pub record Told (n : ℕ) (before : List ℕ) (rs : List Record) (s : Sheet) : T
 
 -- axis and block are numbers that there can be
 pub named_both : (a b : ℕ) → a < 8 → b < 32 → named a b ≡ true
-named_both a b ha hb = and_from (ltb a 8) (ltb b 32) (lt-ltb a 8 ha) (lt-ltb b 32 hb)
+named_both a b ha hb = grind arith
 
 module _ {n : ℕ} {before : List ℕ} {rs : List Record} {s : Sheet} (t : Told n before rs s) where
   pub told_accepted :
@@ -39,8 +38,7 @@ module _ {n : ℕ} {before : List ℕ} {rs : List Record} {s : Sheet} (t : Told 
       Told (1 + n) before (Accept a b (command_of instruction) mode ∷ rs) (accepted s a b instruction mode)
   unfolding accepted
   told_accepted a b instruction mode ha hb may idle = record {
-    reads = reads_after before s.words t.reads (Accept a b (command_of instruction) mode)
-        (and_from (named a b) (may_be (command_of instruction) mode) (named_both a b ha hb) may);
+    reads = reads_after before s.words t.reads (Accept a b (command_of instruction) mode) (rw (named_both a b ha hb) may);
     good = good_accepted t.good a b instruction mode hb idle;
     chained = chained_other t.chained (Accept a b (command_of instruction) mode) (λ d. refl);
   }
@@ -52,8 +50,7 @@ module _ {n : ℕ} {before : List ℕ} {rs : List Record} {s : Sheet} (t : Told 
       Told n before (End a b outcome ∷ rs) (ended s a b outcome)
   unfolding ended
   told_ended a b outcome ha hb may axis busy = record {
-    reads = reads_after before s.words t.reads (End a b outcome)
-        (and_from (named a b) (lawful_outcome outcome) (named_both a b ha hb) may);
+    reads = reads_after before s.words t.reads (End a b outcome) (rw (named_both a b ha hb) may);
     good = good_ended t.good a b outcome hb axis busy;
     chained = chained_other t.chained (End a b outcome) (λ d. refl);
   }
@@ -119,42 +116,7 @@ told_begun {n} {before} {rs} {s} t a b target ha hb reach axis waits = by target
 
 -- the same number is the same state
 pub same_state : (old new : AxisState) → eqb (state_number old) (state_number new) ≡ true → new ≡ old
-same_state Disabled Disabled e = refl
-same_state Disabled Standstill e = absurd (true≢false (sym e))
-same_state Disabled Stopping e = absurd (true≢false (sym e))
-same_state Disabled DiscreteMotion e = absurd (true≢false (sym e))
-same_state Disabled ContinuousMotion e = absurd (true≢false (sym e))
-same_state Disabled ErrorStop e = absurd (true≢false (sym e))
-same_state Standstill Disabled e = absurd (true≢false (sym e))
-same_state Standstill Standstill e = refl
-same_state Standstill Stopping e = absurd (true≢false (sym e))
-same_state Standstill DiscreteMotion e = absurd (true≢false (sym e))
-same_state Standstill ContinuousMotion e = absurd (true≢false (sym e))
-same_state Standstill ErrorStop e = absurd (true≢false (sym e))
-same_state Stopping Disabled e = absurd (true≢false (sym e))
-same_state Stopping Standstill e = absurd (true≢false (sym e))
-same_state Stopping Stopping e = refl
-same_state Stopping DiscreteMotion e = absurd (true≢false (sym e))
-same_state Stopping ContinuousMotion e = absurd (true≢false (sym e))
-same_state Stopping ErrorStop e = absurd (true≢false (sym e))
-same_state DiscreteMotion Disabled e = absurd (true≢false (sym e))
-same_state DiscreteMotion Standstill e = absurd (true≢false (sym e))
-same_state DiscreteMotion Stopping e = absurd (true≢false (sym e))
-same_state DiscreteMotion DiscreteMotion e = refl
-same_state DiscreteMotion ContinuousMotion e = absurd (true≢false (sym e))
-same_state DiscreteMotion ErrorStop e = absurd (true≢false (sym e))
-same_state ContinuousMotion Disabled e = absurd (true≢false (sym e))
-same_state ContinuousMotion Standstill e = absurd (true≢false (sym e))
-same_state ContinuousMotion Stopping e = absurd (true≢false (sym e))
-same_state ContinuousMotion DiscreteMotion e = absurd (true≢false (sym e))
-same_state ContinuousMotion ContinuousMotion e = refl
-same_state ContinuousMotion ErrorStop e = absurd (true≢false (sym e))
-same_state ErrorStop Disabled e = absurd (true≢false (sym e))
-same_state ErrorStop Standstill e = absurd (true≢false (sym e))
-same_state ErrorStop Stopping e = absurd (true≢false (sym e))
-same_state ErrorStop DiscreteMotion e = absurd (true≢false (sym e))
-same_state ErrorStop ContinuousMotion e = absurd (true≢false (sym e))
-same_state ErrorStop ErrorStop e = refl
+same_state old new e = grind arith
 
 -- the records of an entered state
 abbrev pub state_records : Bool → ℕ → AxisState → AxisState → List Record → List Record
@@ -181,7 +143,7 @@ told_entered {n} {before} {rs} {s} t a y ha arrow = by (eqb (state_number old) (
     by true e = told_kept t a y ha (same_state old y.state e)
     by false e = record {
       reads = reads_after before s.words t.reads (State a old y.state)
-          (and_from (ltb a 8) (not (eqb (state_number old) (state_number y.state))) (lt-ltb a 8 ha) (not_from_false _ e));
+          (rw (lt-ltb a 8 ha, e));
       good = good_state t.good a old y.state;
       chained = chained_entered t.chained a y ha (arrow e);
     }

@@ -1,17 +1,15 @@
 -- An axis takes its turn after the segment's cycle. Assumes nothing.
-use Rattle.std.proofs.Common.{◌≡◌, ℕ, ◌<◌, ◌≤◌, Bool, true, false, cond, not, ◌||◌, T, eqb, leb, List, ℤ, pos, ◌≤ℤ◌, Some, None, Option, sym, refl, ap, ◌∙◌, subst, inl, inr, arith}
-use lib.Signed.{le_z}
+use Rattle.std.proofs.Common.{◌≡◌, ℕ, ◌<◌, Bool, true, false, cond, eqb, List, ℤ, pos, Some, None, Option, sym, refl, ap, ◌∙◌, subst, inl, inr, arith}
 use Rattle.std.proofs.lemmas.List.{get_or-set_other}
 use Rattle.std.proofs.lemmas.Int.{ints}
-use Rattle.std.proofs.lemmas.Bool.{cases_eq, eqb-true, eqb-false, ltb-true, le-leb, and_parts, and_from, not-true, true≢false}
+use Rattle.std.proofs.lemmas.Bool.{cases_eq}
 use Rattle.segment.specs.declared.axis.AxisLook.{AxisLook}
 use Rattle.segment.specs.Row.{Sound}
 use Rattle.records.specs.declared.kinds.Record.{Record}
 use Rattle.records.specs.declared.kinds.Record.TheVariants.{End}
 use Rattle.records.specs.declared.motion.AxisState.{AxisState}
-use Rattle.records.specs.declared.motion.AxisState.TheVariants.{Disabled, Standstill, Stopping, DiscreteMotion, ContinuousMotion, ErrorStop}
+use Rattle.records.specs.declared.motion.AxisState.TheVariants.{Disabled, Standstill, Stopping}
 use Rattle.records.specs.declared.motion.Command.{Command}
-use Rattle.records.specs.declared.motion.Command.TheVariants as command
 use Rattle.records.specs.declared.outcome.Cause.{Cause}
 use Rattle.records.specs.declared.outcome.Cause.TheVariants.{Drive}
 use Rattle.records.specs.declared.outcome.Outcome.TheVariants.{Done, Aborted}
@@ -30,11 +28,11 @@ use Rattle.motion.specs.World.{World, on_sheet, axis_of, failed}
 use Rattle.law.specs.Laws.Arrivals.{done_end, done_ends, StandsAt}
 use Rattle.law.specs.Laws.States.{Arrow}
 use Rattle.law.specs.Readings.{LastAccept, LastTarget}
-use Rattle.law.proofs.Closing.{Leads, enter_rest, entered_axes, entered_blocks, stop_remembered}
+use Rattle.law.proofs.Closing.{enter_rest, entered_axes, entered_blocks, stop_remembered}
 use Rattle.law.proofs.Ends.{adds_state}
 use Rattle.law.proofs.Handing.{Seen, seen_same, Went, failed_went, handed_went, reach_of, LeftIn}
 use Rattle.law.proofs.Handing.LeftIn.{moving, stopping, running}
-use Rattle.law.proofs.Lasts.{accept_before, done_end_other}
+use Rattle.law.proofs.Lasts.{accept_before, done_end_other, done_end_not}
 use Rattle.law.proofs.Lines.{nth, axle, Leaves, leaves_all, leaves_then}
 use Rattle.law.proofs.Parts.{Aims, Part, But, Targets, opened}
 use Rattle.law.proofs.Retiring.{retired_open, retired_own, retired_others, retired_leaves, finished_open, finished_own, finished_others, finished_leaves, finished_done}
@@ -53,67 +51,39 @@ data Turned (y : Axis) (x : Block) (look : AxisLook) (refusal : Option Cause) : 
 
 turned : (y : Axis) (x : Block) (look : AxisLook) (refusal : Option Cause) → Turned y x look refusal (turn_of y x look refusal)
 unfolding turn_of
-turned y x look refusal = by_fault (faults y look) refl
+turned y x look refusal = by (faults y look) refusal (enables y look) y.active refl refl refl refl
   where
-    under : faults y look ≡ false → refusal ≡ None → (o : Option ℕ) → y.active ≡ o → (r v : Bool) → reached y x look ≡ r → yields y x ≡ v →
-        Turned y x look refusal (turn_under o y x look)
-    under f n None e r v i j = rests f n
-    under f n (Some b) e true v i j = subst (λ t. Turned y x look refusal (cond t (Finish b) (cond (yields y x) (Yield b) Rest))) (sym i) (finishes b f n e i)
-    under f n (Some b) e false true i j = subst (λ t. Turned y x look refusal (cond t (Finish b) (cond (yields y x) (Yield b) Rest))) (sym i) (subst (λ t. Turned y x look refusal (cond t (Yield b) Rest)) (sym j) (yielded b e j))
-    under f n (Some b) e false false i j = subst (λ t. Turned y x look refusal (cond t (Finish b) (cond (yields y x) (Yield b) Rest))) (sym i) (subst (λ t. Turned y x look refusal (cond t (Yield b) Rest)) (sym j) (rests f n))
+    under : faults y look ≡ false → refusal ≡ None → (b : ℕ) → y.active ≡ Some b → (r v : Bool) → reached y x look ≡ r → yields y x ≡ v →
+        Turned y x look refusal (cond r (Finish b) (cond v (Yield b) Rest))
+    under f n b e true v i j = finishes b f n e i
+    under f n b e false true i j = yielded b e j
+    under f n b e false false i j = rests f n
 
-    by_power : faults y look ≡ false → refusal ≡ None → (e : Bool) → enables y look ≡ e → Turned y x look refusal (cond e Enable (turn_under y.active y x look))
-    by_power f n true e = enabled e
-    by_power f n false e = under f n y.active refl (reached y x look) (yields y x) refl refl
-
-    by_refusal : faults y look ≡ false → (o : Option Cause) → refusal ≡ o → Turned y x look refusal (turn_after o (cond (enables y look) Enable (turn_under y.active y x look)))
-    by_refusal f None e = by_power f e (enables y look) refl
-    by_refusal f (Some cause) e = refused cause e
-
-    by_fault : (f : Bool) → faults y look ≡ f → Turned y x look refusal (cond f (Fail (Drive look.fault)) (turn_after refusal (cond (enables y look) Enable (turn_under y.active y x look))))
-    by_fault true e = faulted e
-    by_fault false e = by_refusal e refusal refl
+    by : (f : Bool) (o : Option Cause) (e : Bool) (active : Option ℕ) → faults y look ≡ f → refusal ≡ o → enables y look ≡ e → y.active ≡ active →
+        Turned y x look refusal (cond f (Fail (Drive look.fault)) (turn_after o (cond e Enable (turn_under active y x look))))
+    by true o e active i j k l = faulted i
+    by false (Some cause) e active i j k l = refused cause j
+    by false None true active i j k l = enabled k
+    by false None false None i j k l = rests i j
+    by false None false (Some b) i j k l = under i j b l (reached y x look) (yields y x) refl refl
 
 -- ---- facts of the tests
 
 same_is : (p q : ℤ) → same p q ≡ true → p ≡ q
-same_is p q e =
-    let parts = and_parts (le_z p q) (le_z q p) e in
-    let one : p ≤ℤ q = record { le = subst T (sym parts.0) tt } in
-    let two : q ≤ℤ p = record { le = subst T (sym parts.1) tt } in
-    omega (arith, ints, one, two)
+same_is p q e = grind (arith, ints)
 
 pub runs_no_errorstop : (c : Option Command) → is_errorstop (state_under c) ≡ false
-runs_no_errorstop None = refl
-runs_no_errorstop (Some command.Absolute) = refl
-runs_no_errorstop (Some command.Relative) = refl
-runs_no_errorstop (Some command.Velocity) = refl
-runs_no_errorstop (Some command.Halt) = refl
-runs_no_errorstop (Some command.Stop) = refl
+runs_no_errorstop c = grind arith
 
 runs_enabled : (c : Option Command) → is_disabled (state_under c) ≡ false
-runs_enabled None = refl
-runs_enabled (Some command.Absolute) = refl
-runs_enabled (Some command.Relative) = refl
-runs_enabled (Some command.Velocity) = refl
-runs_enabled (Some command.Halt) = refl
-runs_enabled (Some command.Stop) = refl
+runs_enabled c = grind arith
 
 disabled_is : (state : AxisState) → is_disabled state ≡ true → state ≡ Disabled
-disabled_is Disabled e = refl
-disabled_is Standstill e = absurd (true≢false (sym e))
-disabled_is Stopping e = absurd (true≢false (sym e))
-disabled_is DiscreteMotion e = absurd (true≢false (sym e))
-disabled_is ContinuousMotion e = absurd (true≢false (sym e))
-disabled_is ErrorStop e = absurd (true≢false (sym e))
+disabled_is state e = grind arith
 
 -- outside errorstop, an axis that does not fail has no fault
 no_fault : (y : Axis) (look : AxisLook) → faults y look ≡ false → is_errorstop y.state ≡ false → look.fault ≡ 0
-no_fault y look e s = by (eqb look.fault 0) refl
-  where
-    by : (z : Bool) → eqb look.fault 0 ≡ z → look.fault ≡ 0
-    by true i = eqb-true look.fault 0 i
-    by false i = absurd (true≢false (sym (and_from (not (eqb look.fault 0)) (not (is_errorstop y.state)) (ap not i) (ap not s)) ∙ e))
+no_fault y look e s = grind arith
 
 -- what a reached command tells
 record Reached (y : Axis) (x : Block) (look : AxisLook) : Type 0 where
@@ -122,32 +92,22 @@ record Reached (y : Axis) (x : Block) (look : AxisLook) : Type 0 where
   arrived : is_move x.command ≡ true → y.distance_to_go ≡ pos 0
 
 reached_tells : (y : Axis) (x : Block) (look : AxisLook) → reached y x look ≡ true → Reached y x look
-reached_tells y x look e =
-    let outer = and_parts _ _ e in
-    let middle = and_parts _ _ outer.0 in
-    let inner = and_parts _ _ middle.0 in
-    record {
-      no_run = not-true _ inner.0;
-      caught_up = same_is look.actual look.demand middle.1;
-      arrived = λ m. same_is y.distance_to_go (pos 0) (subst (λ t. (not t || same y.distance_to_go (pos 0)) ≡ true) m outer.1);
-    }
+reached_tells y x look e = record {
+  no_run = grind arith;
+  caught_up = same_is look.actual look.demand (grind arith);
+  arrived = λ m. same_is y.distance_to_go (pos 0) (grind arith);
+}
+
+-- and one that yields
+yields_tells : (y : Axis) (x : Block) → yields y x ≡ true → (is_run x.command ≡ true) × (0 < y.waiting)
+yields_tells y x e = grind arith
 
 -- where a done command leaves its axis
 left_done : (c : Option Command) (state : AxisState) (waiting : ℕ) → state ≡ state_under c → is_run c ≡ false → (state ≡ Stopping → waiting ≡ 0) → LeftIn state waiting
-left_done None state waiting e r h = subst (λ z. LeftIn z waiting) (sym e) (moving waiting)
-left_done (Some command.Absolute) state waiting e r h = subst (λ z. LeftIn z waiting) (sym e) (moving waiting)
-left_done (Some command.Relative) state waiting e r h = subst (λ z. LeftIn z waiting) (sym e) (moving waiting)
-left_done (Some command.Velocity) state waiting e r h = absurd (true≢false r)
-left_done (Some command.Halt) state waiting e r h = subst (λ z. LeftIn z waiting) (sym e) (moving waiting)
-left_done (Some command.Stop) state waiting e r h = subst (λ z. LeftIn z waiting) (sym e) (subst (LeftIn Stopping) (sym (h e)) stopping)
+left_done c state waiting e r h = grind (arith, moving, stopping)
 
 left_run : (c : Option Command) (state : AxisState) (waiting : ℕ) → state ≡ state_under c → is_run c ≡ true → 0 < waiting → LeftIn state waiting
-left_run None state waiting e r h = absurd (true≢false (sym r))
-left_run (Some command.Absolute) state waiting e r h = absurd (true≢false (sym r))
-left_run (Some command.Relative) state waiting e r h = absurd (true≢false (sym r))
-left_run (Some command.Velocity) state waiting e r h = subst (λ z. LeftIn z waiting) (sym e) (running waiting h)
-left_run (Some command.Halt) state waiting e r h = absurd (true≢false (sym r))
-left_run (Some command.Stop) state waiting e r h = absurd (true≢false (sym r))
+left_run c state waiting e r h = grind (arith, running)
 
 -- ---- the turn
 
@@ -198,7 +158,7 @@ module _ {C : ℕ → Type 0} {n : ℕ} {before : List ℕ} {rs : List Record} (
   active_is b e = ap (active_block w.sheet.table) e
 
   unfailing : (b : ℕ) → (axis_of w a).active ≡ Some b → is_errorstop (axis_of w a).state ≡ false
-  unfailing b e = ap is_errorstop ((p.fits a).under b e) ∙ runs_no_errorstop (nth w.sheet.table.blocks b).command
+  unfailing b e = rw ((p.fits a).under b e) (runs_no_errorstop (nth w.sheet.table.blocks b).command)
 
   -- the axis does not fail: its move leads to its target
   sure : faults (axis_of w a) (w.row.at a) ≡ false → refusal ≡ None → Aims rs w.sheet.table.blocks (axis_of w a) (w.row.at a)
@@ -212,7 +172,7 @@ module _ {C : ℕ → Type 0} {n : ℕ} {before : List ℕ} {rs : List Record} (
       lines = p.lines;
       fits = p.fits;
       aims = λ d c. elim (cases_eq d a) [
-        | inl e ↦ subst (λ k. Aims rs w.sheet.table.blocks (axis_of w k) (w.row.at k)) (sym e) (sure f r)
+        | inl e ↦ rw e (sure f r)
         | inr ne ↦ p.aims d (c ne)
       ];
     };
@@ -227,12 +187,7 @@ module _ {C : ℕ → Type 0} {n : ℕ} {before : List ℕ} {rs : List Record} (
   }
 
   fault_over : faults (axis_of w a) (w.row.at a) ≡ true → TurnOver a C n before rs w (failed w a (Drive (w.row.at a).fault))
-  fault_over f =
-      let parts = and_parts (not (eqb (w.row.at a).fault 0)) (not (is_errorstop (axis_of w a).state)) f in
-      let some : 1 ≤ (w.row.at a).fault = omega (arith, eqb-false (w.row.at a).fault 0 (not-true _ parts.0)) in
-      over (failed_went w (opened a p) ha (Drive (w.row.at a).fault)
-      (and_from (leb 1 (w.row.at a).fault) (leb (w.row.at a).fault 15) (le-leb 1 _ some) (le-leb _ 15 sound.fault))
-      (not-true _ parts.1))
+  fault_over f = over (failed_went w (opened a p) ha (Drive (w.row.at a).fault) (grind (arith, sound.fault, f)) (grind (arith, f)))
 
   refused_over : (cause : Cause) → refusal ≡ Some cause → TurnOver a C n before rs w (failed w a cause)
   refused_over cause e =
@@ -244,11 +199,11 @@ module _ {C : ℕ → Type 0} {n : ℕ} {before : List ℕ} {rs : List Record} (
     where
       by : (o : Option ℕ) → (axis_of w a).active ≡ o → o ≡ None
       by None i = refl
-      by (Some b) i = absurd (true≢false (sym e ∙ ap is_disabled ((p.fits a).under b i) ∙ runs_enabled (nth w.sheet.table.blocks b).command))
+      by (Some b) i = let under = (p.fits a).under b i in let on = runs_enabled (nth w.sheet.table.blocks b).command in cc
 
   enable_over : enables (axis_of w a) (w.row.at a) ≡ true → TurnOver a C n before rs w (on_sheet w (entered w.sheet a (with_state (axis_of w a) Standstill)))
   enable_over e =
-      let off = (and_parts _ _ (and_parts _ _ e).0).0 in
+      let off : is_disabled (axis_of w a).state ≡ true = grind (arith, e) in
       let none = no_active off in
       let y = axis_of w a in
       let z = with_state y Standstill in
@@ -256,10 +211,10 @@ module _ {C : ℕ → Type 0} {n : ℕ} {before : List ℕ} {rs : List Record} (
       over (record {
         records = entry_records a y.state Standstill rs;
         part = enter_rest (opened a p) ha z none none refl refl tt (λ b. stop_remembered Standstill y.stop b)
-            (subst (λ k. Leads k Standstill) (sym state) (λ i. Arrow.enables)) w.row (λ d ne. refl);
+            (rw state (λ i. Arrow.enables)) w.row (λ d ne. refl);
         adds = adds_state a w.sheet.table.blocks rs (eqb (state_number y.state) 1) a y.state Standstill;
-        leaves = subst (Leaves a w.sheet.table.blocks) (sym (entered_blocks w.sheet a z)) (leaves_all a w.sheet.table.blocks);
-        others = λ d ne. ap (λ axs. axle axs d) (entered_axes w.sheet a z) ∙ get_or-set_other w.sheet.table.axes a d z _ ne;
+        leaves = rw (entered_blocks w.sheet a z) (leaves_all a w.sheet.table.blocks);
+        others = λ d ne. rw (entered_axes w.sheet a z) (get_or-set_other w.sheet.table.axes a d z _ ne);
         seen = λ d. seen_same (w.row.at d);
         rows = λ d ne. refl;
         count = refl;
@@ -267,14 +222,13 @@ module _ {C : ℕ → Type 0} {n : ℕ} {before : List ℕ} {rs : List Record} (
 
   yield_over : (b : ℕ) → (axis_of w a).active ≡ Some b → yields (axis_of w a) x ≡ true → TurnOver a C n before rs w (handed (on_sheet w (retired w.sheet a b Aborted)) a)
   yield_over b e y =
-      let outer = and_parts _ _ y in
-      let inner = and_parts _ _ outer.0 in
-      let run : is_run (nth w.sheet.table.blocks b).command ≡ true = subst (λ (z : Block). is_run z.command ≡ true) (active_is b e) inner.0 in
-      let left = left_run (nth w.sheet.table.blocks b).command (axis_of w a).state (axis_of w a).waiting ((p.fits a).under b e) run (ltb-true 0 _ outer.1) in
+      let tells = yields_tells (axis_of w a) x y in
+      let run : is_run (nth w.sheet.table.blocks b).command ≡ true = rw (← active_is b e) tells.0 in
+      let left = left_run (nth w.sheet.table.blocks b).command (axis_of w a).state (axis_of w a).waiting ((p.fits a).under b e) run tells.1 in
       let turn = retired_open (opened a p) ha b e Aborted refl in
       let own = retired_own (opened a p) ha b e Aborted in
       let w1 = on_sheet w (retired w.sheet a b Aborted) in
-      let g = handed_went w1 turn ha sound (ap (λ (z : Axis). z.active) own) (subst (λ (z : Axis). LeftIn z.state z.waiting) (sym own) left) in
+      let g = handed_went w1 turn ha sound (rw own) (rw own left) in
       let leaves = retired_leaves (opened a p) ha b e Aborted in
       record {
         records = g.records;
@@ -290,23 +244,19 @@ module _ {C : ℕ → Type 0} {n : ℕ} {before : List ℕ} {rs : List Record} (
       }
     where
       zero_end : (c : ℕ) → done_end c (End a b Aborted) ≡ 0
-      zero_end c = by (eqb b c)
-        where
-          by : (z : Bool) → ◌≡◌ {A = ℕ} (cond z 0 0) 0
-          by true = refl
-          by false = refl
+      zero_end c = done_end_not c a b Aborted refl
 
   finish_over : (b : ℕ) → faults (axis_of w a) (w.row.at a) ≡ false → refusal ≡ None → (axis_of w a).active ≡ Some b → reached (axis_of w a) x (w.row.at a) ≡ true →
       TurnOver a C n before rs w (handed (on_sheet w (finished w.sheet a b (w.row.at a).actual)) a)
   finish_over b f r e y =
       let look = w.row.at a in
-      let tells = subst (λ (z : Block). Reached (axis_of w a) z look) (active_is b e) (reached_tells (axis_of w a) x look y) in
+      let tells = rw (active_is b e) at (reached_tells (axis_of w a) x look y) in
       let left = left_done (nth w.sheet.table.blocks b).command (axis_of w a).state (axis_of w a).waiting ((p.fits a).under b e) tells.no_run (λ s. ((p.fits a).alone b e s).0) in
       let reach = reach_of look.actual sound.actual in
       let turn = finished_open (opened a p) ha b e look.actual reach in
       let own = finished_own (opened a p) ha b e look.actual reach in
       let w1 = on_sheet w (finished w.sheet a b look.actual) in
-      let g = handed_went w1 turn ha sound (ap (λ (z : Axis). z.active) own) (subst (λ (z : Axis). LeftIn z.state z.waiting) (sym own) left) in
+      let g = handed_went w1 turn ha sound (rw own) (rw own left) in
       let leaves = finished_leaves (opened a p) ha b e look.actual reach in
       let done = finished_done (opened a p) ha b e look.actual reach in
       record {
@@ -323,7 +273,7 @@ module _ {C : ℕ → Type 0} {n : ℕ} {before : List ℕ} {rs : List Record} (
                 let zero = tells.arrived m in
                 let same : look.demand ≡ aim.target = omega (arith, ints, aim.way, zero) in (
                   aim.target,
-                  g.adds.targets b (λ _ q. let k = sym done ∙ q in let z : ◌≡◌ {A = ℕ} 0 1 = cc in omega arith) aim.target (LastTarget.before refl (LastTarget.before refl aim.last)),
+                  g.adds.targets b (λ _ q. cc) aim.target (LastTarget.before refl (LastTarget.before refl aim.last)),
                   record { demand = same; actual = tells.caught_up ∙ same },
                 );
           })

@@ -3,6 +3,7 @@ use moves::Instruction;
 use records::BufferMode;
 
 /// One call with its arguments.
+// An enum and no closure: an order is data, which a list of orders and the history of a run hold.
 #[derive(Clone, Copy)]
 pub enum Order {
     /// Ask for power on an axis.
