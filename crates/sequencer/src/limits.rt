@@ -14,7 +14,7 @@ const MAX_DISTANCE: u32 = 200_000_000;
 fn is_rate(increments: u32) -> bool
     ensures { result ≡ is_rate increments }
 {
-    (1 <= increments) & (increments <= Rate::MOST)
+    Rate::new(increments).is_some()
 }
 
 // Two functions of one comparison each: with the limit as an argument a caller could exchange the two.
