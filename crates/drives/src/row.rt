@@ -1,5 +1,6 @@
 //! A bank of drives is a segment.
-ghost use Rattle.segment.specs.Calls.{PoweredOn, PoweredOff, Followed, Tripped, Cleared};
+ghost use Rattle.std.specs.Prelude.{◌≡◌, Some, None, MatchResult};
+ghost use Rattle.segment.specs.Calls.{ready_reason, PoweredOn, PoweredOff, Followed, Tripped, Cleared};
 ghost use Rattle.segment.specs.Cycle.{Cycled};
 ghost use Rattle.drives.specs.Orders.{power_on, power_off, follow_to, trip_with, clear_it, There, ObeyedOrNot, AllCycled};
 ghost use Rattle.drives.specs.Shown.{row_of, shown_sound};
@@ -19,6 +20,14 @@ impl<D> Bank<D> {
             Err(Refusal::new(Reason::NoSuchAxis))
         }
     }
+}
+
+// Whether an axis that looks so may follow to a position: as the look answers, with its reason as a refusal.
+fn ready(look: AxisLook, position: i32) -> Result<(), Refusal>
+    ensures { MatchResult result (λ _. ready_reason look position ≡ None) (λ e. ready_reason look position ≡ Some e.reason) }
+{
+    look.ready(position)?;
+    Ok(())
 }
 
 impl<D: Drive> Segment for Bank<D> {
@@ -60,7 +69,7 @@ impl<D: Drive> Segment for Bank<D> {
         ensures exact { ObeyedOrNot D.Drive.obeys (follow_to position) axis self.old result self.new }
     {
         let look = self.look(axis)?;
-        look.ready(position)?;
+        ready(look, position)?;
         self.drives[axis].follow(position);
         Ok(())
     }

@@ -1,4 +1,4 @@
-use Rattle.std.proofs.Common.{get_or, Some, sym, refl, ap, ◌∙◌, subst, arith, w32, to_z, of_z}
+use Rattle.std.proofs.Common.{get_or, sym, refl, ap, ◌∙◌, subst, arith, w32, to_z, of_z}
 use Rattle.std.proofs.lemmas.Result.{err_from_is_err_and}
 use Rattle.std.proofs.lemmas.Int.{to_z-of_z}
 use Rattle.segment.specs.Calls.{followed, ready_reason}
@@ -12,7 +12,7 @@ pub returns-in_err-ready : goal.returns-in_err-ready
 returns-in_err-ready g c =
     let p = err_from_is_err_and c.from_residual-in_err-ready.result c.from_residual-in_err-ready.ensures.1 in
     let seen = c.in_ok-look.ensures in
-    rw p.1 (record { meant = (ready_from (shown_row g.D.Drive.seen c.args.self.now.count c.args.self.now.drives) _ _ _ _ seen.0 seen.1 (ap (ready_reason c.in_ok-look.look) (sym (to_z-of_z w32 c.args.position c.ranges.position)) ∙ c.in_err-ready.ensures) ∙ ap Some (sym p.2.reason), refl); exact = refl })
+    rw (p.1, p.2) (record { meant = (ready_from (shown_row g.D.Drive.seen c.args.self.now.count c.args.self.now.drives) _ _ _ _ seen.0 seen.1 (ap (ready_reason c.in_ok-look.look) (sym (to_z-of_z w32 c.args.position c.ranges.position)) ∙ c.in_err-ready.ensures), refl); exact = refl })
 
 pub offset_bounds-self-axis : goal.offset_bounds-self-axis
 offset_bounds-self-axis g c = omega (arith, within _ _ c.in_ok-look.ensures.0)
