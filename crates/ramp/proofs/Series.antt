@@ -55,9 +55,11 @@ above_left m decel w ends d h s l u b =
     let up = mul-le n (suc q + m * decel) n (u + u) (omega arith) (omega arith) in
     omega (arith, mul-add n u u, mul-add n (suc q) (m * decel), line_gap m decel, mul_comm n (suc q), suc-mul q n)
 
--- what is taken off is at most both ends, and what is left is above 0 where d is
+-- what is left of a speed w that does not stop within d: a lower speed, below none that does, and above 0 where d is
 pub record Slower (decel w n ends d : ℕ) : Type 0 where
   pub under : 2 * d / n < ends
+  pub fits : (ends - 2 * d / n + 1) / 2 ≤ w
+  pub less : w - (ends - 2 * d / n + 1) / 2 < w
   pub above : NoneStopsAbove d decel (w - (ends - 2 * d / n + 1) / 2)
   pub least : 1 ≤ d → 1 ≤ w - (ends - 2 * d / n + 1) / 2
 
@@ -68,4 +70,10 @@ slower (suc m) decel w ends d h s l =
     let sum = series_sum (suc m) decel w ends h s in
     let under = div_below (2 * d) (suc m) ends (omega arith) (omega (arith, mul_comm (suc m) ends)) in
     let above = above_left m decel w ends d h s under in
-    record { under = under; above = above; least = λ p. grind (arith, above 1, stopping_more, stopping_none) }
+    record {
+      under = under;
+      fits = omega arith;
+      less = omega arith;
+      above = above;
+      least = λ p. grind (arith, above 1, stopping_more, stopping_none);
+    }
