@@ -1,3 +1,4 @@
+pub mod Alike
 pub mod HandedUp
 pub mod Leading
 pub mod Mirrored

@@ -19,7 +19,7 @@ ready_turned : (b : Bool) (a : AxisLook) (p : ℤ) → Sound a → ready_reason 
 ready_turned true a p s = let range = range_turned a p s in cc
 ready_turned false a p s = refl
 
-follow_reason_mirrored : (mask : ℕ) (row : Row) (axis : ℕ) (p q : ℤ) → SoundRow row → q ≡ order_below (in_mask mask axis) p
+pub follow_reason_mirrored : (mask : ℕ) (row : Row) (axis : ℕ) (p q : ℤ) → SoundRow row → q ≡ order_below (in_mask mask axis) p
     → follow_reason (mirrored mask row) axis p ≡ follow_reason row axis q
 follow_reason_mirrored mask row axis p q s e =
     ap (λ o. cond (ltb axis row.count) o (Some NoSuchAxis)) (ready_turned (in_mask mask axis) (row.at axis) p (s.each axis))

@@ -16,3 +16,7 @@ pub use mirror::{Mirror, TurnedAxes};
 pub use soft_limits::SoftLimits;
 pub use stage::Stage;
 pub use view::View;
+
+// The two views also go by the names of the segments that they make.
+pub use mirror_view as mirror_segment;
+pub use soft_limits_view as soft_limits_segment;
