@@ -1,2 +1,2 @@
-mod Aims
-mod Ends
+pub mod Aims
+pub mod Ends

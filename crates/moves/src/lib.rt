@@ -20,6 +20,8 @@ pub mod table;
 pub mod telling;
 pub mod ticking;
 
+// The aims also go by the name of what they come of.
+pub use aim as aiming;
 pub use aim::OutOfRange;
 pub use commands::{state_under, stop_under};
 pub use failure::{Ending, Failure};

@@ -1,5 +1,6 @@
 //! The sequencer's table: its blocks, and what it keeps of each axis.
 use crate::numbers::{AxisNumber, BlockNumber};
+pub use crate::queue::MAX_WAITING;
 use crate::queue::Queue;
 use records::{AxisState, BufferMode, Cause, Command};
 use std::marker::Model;

@@ -1,0 +1,2 @@
+-- the lemmas on aims, which turns go by
+pub use Rattle.moves.proofs.Aims
