@@ -1,5 +1,5 @@
 -- The last accept of a block is that of its open round; which ends are done. Assumes nothing.
-use Rattle.std.proofs.Common.{◌≡◌, ℕ, false, List, ◌∷◌, Some, Option, refl, arith}
+use Rattle.std.proofs.Common.{◌≡◌, ℕ, Bool, true, false, cond, List, ◌∷◌, Some, Option, refl, arith}
 use Rattle.std.proofs.lemmas.Bool.{eqb-false}
 use Rattle.records.specs.declared.kinds.Record.{Record}
 use Rattle.records.specs.declared.kinds.Record.TheVariants.{End}
@@ -38,6 +38,11 @@ accept_before e (LastAccept.before p l) = l
 -- the end of another block is not done for this one
 pub done_end_other : (c a b : ℕ) (o : Outcome) → (b ≡ c → ⊥) → done_end c (End a b o) ≡ 0
 done_end_other c a b o ne = grind arith
+
+-- nothing either way is nothing
+nothing : (t : Bool) → ◌≡◌ {A = ℕ} (cond t 0 0) 0
+nothing true = refl
+nothing false = refl
 
 -- nor is an end that is not done
 pub done_end_not : (c a b : ℕ) (o : Outcome) → is_done o ≡ false → done_end c (End a b o) ≡ 0

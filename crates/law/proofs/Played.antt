@@ -1,5 +1,5 @@
 -- A row of orders, one more at a time. Assumes nothing.
-use Rattle.std.proofs.Common.{◌≡◌, ℕ, ◌+◌, ◌<◌, List, [], ◌∷◌, length, get_or, take, refl}
+use Rattle.std.proofs.Common.{◌≡◌, ℕ, ◌+◌, ◌<◌, ◌≤◌, List, [], ◌∷◌, length, get_or, take, refl, subst, take_all}
 use Rattle.std.proofs.lemmas.List.{take_more}
 use Rattle.segment.specs.Row.{Row, SoundRow}
 use Rattle.trail.specs.declared.memory.Trail.{Trail}
@@ -30,6 +30,10 @@ played_more start orders i default r w w' h p s =
       run = run;
       throughout = throughout run;
     }
+
+-- once all the orders are taken, they are played
+pub played_all : (start : World) (orders : List Order) (i : ℕ) (w : World) → length orders ≤ i → Played start (take i orders) w → Played start orders w
+played_all start orders i w h p = subst (λ os. Played start os w) (take_all i orders h) p
 
 -- a sequencer just made and an emptied trail are a new world
 pub new_is :

@@ -73,6 +73,11 @@ module _ {a : ℕ} {C : ℕ → Type 0} {n : ℕ} {before : List ℕ} {rs : List
   unfolding retired
   retired_others d ne = rw axes_after (get_or-set_other s.table.axes a d _ (disabled_axis []) ne)
 
+  -- the blocks are those after the end
+  pub retired_blocks : (retired s a b o).table.blocks ≡ (ended s a b o).table.blocks
+  unfolding retired
+  retired_blocks = refl
+
   pub retired_leaves : Leaves a s.table.blocks (retired s a b o).table.blocks
   unfolding retired
   retired_leaves = leaves_after
@@ -97,6 +102,11 @@ module _ {a : ℕ} {C : ℕ → Type 0} {n : ℕ} {before : List ℕ} {rs : List
   pub finished_done : (nth (finished s a b place).table.blocks b).status ≡ status.Done
   unfolding finished ended
   finished_done = ap (λ (x : Block). x.status) (get_or-set_same s.table.blocks b _ idle_block (omega (arith, turn.told.good.size, (own turn ha b active Done).within)))
+
+  -- the blocks are those after the end
+  pub finished_blocks : (finished s a b place).table.blocks ≡ (ended s a b Done).table.blocks
+  unfolding finished
+  finished_blocks = refl
 
   pub finished_leaves : Leaves a s.table.blocks (finished s a b place).table.blocks
   unfolding finished

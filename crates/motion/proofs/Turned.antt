@@ -1,11 +1,12 @@
--- An axis fails by a lawful cause. Assumes nothing.
-use Rattle.std.proofs.Common.{◌≡◌, ℕ, ◌≤◌, Bool, true, cond, not, ◌&&◌, eqb, leb, Some, None, Option, sym, subst, arith}
+-- An axis fails by a lawful cause; what a segment shows is in reach. Assumes nothing.
+use Rattle.std.proofs.Common.{◌≡◌, ℕ, ◌≤◌, Bool, true, cond, not, ◌&&◌, eqb, leb, ℤ, Some, None, Option, sym, subst, arith}
+use Rattle.std.proofs.lemmas.Int.{ints}
 use Rattle.std.proofs.lemmas.Bool.{and_from, and_parts, not-true, eqb-false, le-leb, cond_both}
 use Rattle.segment.specs.declared.axis.AxisLook.{AxisLook}
-use Rattle.segment.specs.Row.{Sound}
+use Rattle.segment.specs.Row.{Position, Sound}
 use Rattle.records.specs.declared.outcome.Cause.{Cause}
 use Rattle.records.specs.declared.outcome.Cause.TheVariants.{Drive}
-use Rattle.words.specs.Words.{lawful_cause}
+use Rattle.words.specs.Words.{in_reach, lawful_cause}
 use Rattle.moves.specs.declared.table.Axis.{Axis}
 use Rattle.moves.specs.declared.table.Block.{Block}
 use Rattle.moves.specs.Axes.{is_errorstop}
@@ -13,6 +14,10 @@ use Rattle.turns.specs.declared.turn.Turn.{Turn}
 use Rattle.turns.specs.declared.turn.Turn.TheVariants.{Rest, Fail, Enable, Finish, Yield}
 use Rattle.turns.specs.Turns.{reached, yields, enables, faults, turn_under, turn_after, turn_of}
 use Rattle.motion.specs.Causes.{LawfulNoted}
+
+-- what a segment shows, a record can tell
+pub position_in_reach : (p : ℤ) → Position p → in_reach p ≡ true
+position_in_reach p position = grind (arith, ints)
 
 -- the cause of a turn that fails is lawful
 abbrev FailsLawfully : Turn → Type 0

@@ -1,1 +1,3 @@
+pub mod Cycles
+pub mod Passing
 pub mod Takes

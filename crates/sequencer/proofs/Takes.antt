@@ -1,12 +1,15 @@
--- An accepted command and the world. Assumes nothing.
-use Rattle.std.proofs.Common.{◌≡◌, ℕ, Bool, true, false, ℤ, None, Ok, Err, Option, sym, refl, ap, ◌∙◌}
+-- An accepted command and the world; which numbers a position is. Assumes nothing.
+use Rattle.std.proofs.Common.{◌≡◌, ℕ, Bool, true, false, ℤ, pos, negsuc, None, Ok, Err, Option, sym, refl, ap, ◌∙◌, arith, w32, SFits}
+use Rattle.std.proofs.lemmas.Int.{ints}
 use Rattle.std.specs.Result.{result_unwrap_or}
 use Rattle.records.specs.declared.motion.BufferMode.{BufferMode}
+use Rattle.segment.specs.Row.{Position}
 use Rattle.moves.specs.declared.instruction.Instruction.{Instruction}
 use Rattle.moves.specs.Blocks.{Aim, block_aim, block_of}
 use Rattle.moves.specs.Moves.{accepted}
 use Rattle.moves.specs.Sheet.{Sheet}
 use Rattle.motion.specs.World.{World, axis_of, on_sheet}
+use Rattle.words.specs.Words.{in_reach}
 use Rattle.sequencer.specs.Calls.{target_of, taken_on, executed}
 use Rattle.sequencer.specs.Refusals.{waits}
 use Rattle.sequencer.specs.Takes.{taken}
@@ -36,6 +39,15 @@ pub accepted_axes : (s t : Sheet) (a b : ℕ) (instruction : Instruction) (mode 
     t ≡ accepted s a b instruction mode → t.table.axes ≡ s.table.axes
 unfolding accepted
 accepted_axes s t a b instruction mode e = ap (λ (s : Sheet). s.table.axes) e
+
+-- a position is a number of 32 bits
+pub position_fits : (p : ℤ) → Position p → SFits w32 p
+position_fits (pos n) within = record { sfits = omega (arith, ints) }
+position_fits (negsuc n) within = record { sfits = omega (arith, ints) }
+
+-- a position is in reach
+pub position_in_reach : (p : ℤ) → Position p → in_reach p ≡ true
+position_in_reach p within = grind (arith, ints)
 
 -- the target of an aim, none where it is out of range
 pub target_of_is : (aim : Aim) → result_unwrap_or aim None ≡ target_of aim
