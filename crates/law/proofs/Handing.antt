@@ -118,7 +118,7 @@ targeted : (o : Option ℤ) → (o ≡ None → ⊥) → (t : ℤ) × (o ≡ Som
 targeted None never = absurd (never refl)
 targeted (Some t) never = (t, refl)
 
-next_begin : (y : Axis) (x : Block) (look : AxisLook) (start : Start) → next_of y x look ≡ Ok (Some start) → Begins y x look start.block start.target
+next_begin : (y : Axis) (x : Block) (look : AxisLook) (start : Start ℕ) → next_of y x look ≡ Ok (Some start) → Begins y x look start.block start.target
 unfolding next_of
 next_begin y x look start e = record {
   some = grind arith;

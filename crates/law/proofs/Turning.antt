@@ -41,7 +41,7 @@ use Rattle.law.proofs.Told.{entry_records}
 -- ---- which turn it is
 
 -- what a turn tells of the axis
-data Turned (y : Axis) (x : Block) (look : AxisLook) (refusal : Option Cause) : Turn → Type 0 where
+data Turned (y : Axis) (x : Block) (look : AxisLook) (refusal : Option Cause) : Turn ℕ → Type 0 where
   rests : faults y look ≡ false → refusal ≡ None → Turned y x look refusal Rest
   faulted : faults y look ≡ true → Turned y x look refusal (Fail (Drive look.fault))
   refused : (cause : Cause) → refusal ≡ Some cause → Turned y x look refusal (Fail cause)
@@ -289,7 +289,7 @@ module _ {C : ℕ → Type 0} {n : ℕ} {before : List ℕ} {rs : List Record} (
   unfolding settled x
   settled_over = by (turned (axis_of w a) x (w.row.at a) refusal)
     where
-      by : {turn : Turn} → Turned (axis_of w a) x (w.row.at a) refusal turn → TurnOver a C n before rs w (settled_by turn w a)
+      by : {turn : Turn ℕ} → Turned (axis_of w a) x (w.row.at a) refusal turn → TurnOver a C n before rs w (settled_by turn w a)
       by (rests f r) = rest_over f r
       by (faulted f) = fault_over f
       by (refused cause e) = refused_over cause e

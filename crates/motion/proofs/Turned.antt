@@ -20,7 +20,7 @@ pub position_in_reach : (p : ℤ) → Position p → in_reach p ≡ true
 position_in_reach p position = grind (arith, ints)
 
 -- the cause of a turn that fails is lawful
-abbrev FailsLawfully : Turn → Type 0
+abbrev FailsLawfully : Turn ℕ → Type 0
 FailsLawfully Rest = Unit {0}
 FailsLawfully (Fail cause) = lawful_cause cause ≡ true
 FailsLawfully Enable = Unit {0}
@@ -39,7 +39,7 @@ under_fails (Some b) y x look =
     cond_both (reached y x look) (Finish b) (cond (yields y x) (Yield b) Rest) FailsLawfully (λ _. tt)
     (λ _. cond_both (yields y x) (Yield b) Rest FailsLawfully (λ _. tt) (λ _. tt))
 
-after_fails : (refusal : Option Cause) (others : Turn) → LawfulNoted refusal → FailsLawfully others → FailsLawfully (turn_after refusal others)
+after_fails : (refusal : Option Cause) (others : Turn ℕ) → LawfulNoted refusal → FailsLawfully others → FailsLawfully (turn_after refusal others)
 after_fails None others lawful fails = fails
 after_fails (Some cause) others lawful fails = lawful
 

@@ -28,7 +28,7 @@ handed w a =
     w a
 
 -- the axis a takes this turn
-abbrev pub settled_by : Turn → World → ℕ → World
+abbrev pub settled_by : Turn ℕ → World → ℕ → World
 settled_by Rest w a = w
 settled_by (Fail cause) w a = failed w a cause
 settled_by Enable w a = on_sheet w (entered w.sheet a (with_state (axis_of w a) Standstill))

@@ -4,3 +4,4 @@ pub mod Kept
 pub mod Moves
 pub mod Sheet
 pub mod Room
+pub mod Sized

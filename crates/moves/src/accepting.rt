@@ -29,7 +29,7 @@ impl Table {
         ensures sheet { sheet self.new trail.new ≡ accepted (sheet self.old trail.old) axis block instruction mode }
         ensures wrote { Wrote 1 trail.old trail.new }
     {
-        self.blocks[block.index()] = Block::of(axis, instruction, mode);
+        self.blocks[block.index()] = Block::of(axis.into(), instruction, mode);
         tell(
             trail,
             Record::Accept {

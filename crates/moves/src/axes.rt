@@ -3,6 +3,7 @@ ghost use Rattle.std.specs.Prelude.{◌≡◌, ◌<◌, ◌≤◌, unsigned_abs}
 ghost use Rattle.moves.specs.Axes.{stop_in, with_state, with_request, with_motion, halted_in, under_command, joined};
 ghost use Rattle.moves.specs.Axes.{without_active, without_commands};
 ghost use Rattle.moves.specs.Sheet.{disabled_axis};
+ghost use Rattle.moves.specs.Sized.{SizedAxis};
 ghost use Rattle.std.specs.Prelude.{replicate};
 
 use crate::commands::{state_under, stop_under};
@@ -13,7 +14,7 @@ use ramp::Motion;
 use records::{AxisState, Command};
 
 // The block of a stop is remembered in the state stopping only.
-fn stop_in(state: AxisState, stop: Option<BlockNumber>) -> Option<BlockNumber>
+pub(crate) fn stop_in(state: AxisState, stop: Option<u8>) -> Option<u8>
     ensures { result ≡ stop_in state stop }
 {
     if state == AxisState::Stopping {
@@ -36,6 +37,15 @@ impl Axis {
             queue: Queue::new(),
             stop: None,
         }
+    }
+
+    // Does nothing but say what the type keeps to, since contracts see an axis as a plain value.
+    pub(crate) fn sized(&self)
+        ensures { SizedAxis self.now }
+    {
+        let _ = &self.velocity;
+        let _ = self.active.map(BlockNumber::index);
+        self.queue.sized();
     }
 
     /// The axis in another state, which keeps the block of a stop in the state stopping only.
@@ -99,7 +109,7 @@ impl Axis {
         self.distance_to_go = distance_to_go;
         self.active = Some(block);
         self.queue = queue;
-        self.stop = stop_under(command, block);
+        self.stop = stop_under(command, block.into());
         self
     }
 

@@ -2,6 +2,7 @@
 ghost use Rattle.std.specs.Prelude.{◌≡◌, ◌<◌};
 ghost use Rattle.moves.specs.Axes.{with_request, joined};
 ghost use Rattle.moves.specs.Sheet.{axis_at, block_at, idle_block, new_table, with_axis, with_block};
+ghost use Rattle.moves.specs.Sized.{Sized};
 
 use crate::numbers::{AxisNumber, BlockNumber};
 use crate::table::{Axis, Block, MAX_AXES, MAX_BLOCKS, Table};
@@ -30,6 +31,15 @@ impl Table {
         ensures { result ≡ axis_at self.now axis }
     {
         self.axes[axis.index()]
+    }
+
+    /// Does nothing but say what the types of the axes keep to, since contracts see a table as plain values.
+    pub fn sized(&self)
+        ensures { Sized self.now }
+    {
+        for axis in &self.axes {
+            axis.sized();
+        }
     }
 
     /// A block has no command any more.

@@ -4,7 +4,6 @@ ghost use Rattle.moves.specs.Blocks.{command_of, waiting_block, block_of, is_mov
 ghost use Rattle.moves.specs.Sheet.{idle_block};
 
 use crate::instruction::Instruction;
-use crate::numbers::{AxisNumber, BlockNumber};
 use crate::table::{Block, Status};
 use records::{AxisState, BufferMode, Command};
 
@@ -30,7 +29,7 @@ impl Block {
     {
         Block {
             status: Status::Idle,
-            axis: AxisNumber::of(0),
+            axis: 0,
             command: None,
             mode: BufferMode::Aborting,
             value: 0,
@@ -41,7 +40,7 @@ impl Block {
 
     // A block that waits, with these values.
     fn waiting(
-        axis: AxisNumber,
+        axis: u8,
         command: Command,
         mode: BufferMode,
         value: i32,
@@ -64,7 +63,7 @@ impl Block {
     // The mode is no part of the instruction: an execute takes it as an argument of its own.
 
     /// The block of an instruction for an axis: its command waits, and each value that it does not use is 0.
-    pub fn of(axis: AxisNumber, instruction: Instruction, mode: BufferMode) -> Block
+    pub fn of(axis: u8, instruction: Instruction, mode: BufferMode) -> Block
         ensures { result ≡ block_of axis instruction mode }
     {
         let command = instruction.command();
@@ -107,15 +106,29 @@ impl Block {
     pub fn is_move(self) -> bool
         ensures { result ≡ is_move self.command }
     {
-        matches!(self.command, Some(Command::Absolute | Command::Relative))
+        is_move(self.command)
     }
 
     /// Whether the block's command is a run at a velocity.
     pub fn is_run(self) -> bool
         ensures { result ≡ is_run self.command }
     {
-        self.command == Some(Command::Velocity)
+        is_run(self.command)
     }
+}
+
+/// Whether the command is a move to a target.
+pub fn is_move(command: Option<Command>) -> bool
+    ensures { result ≡ is_move command }
+{
+    matches!(command, Some(Command::Absolute | Command::Relative))
+}
+
+/// Whether the command is a run at a velocity.
+pub fn is_run(command: Option<Command>) -> bool
+    ensures { result ≡ is_run command }
+{
+    command == Some(Command::Velocity)
 }
 
 /// The state of an axis under the command.
@@ -131,7 +144,7 @@ pub fn state_under(command: Option<Command>) -> AxisState
 }
 
 /// The block to remember under the command: that of a stop.
-pub fn stop_under(command: Option<Command>, block: BlockNumber) -> Option<BlockNumber>
+pub fn stop_under(command: Option<Command>, block: u8) -> Option<u8>
     ensures { result ≡ stop_under command block }
 {
     if command == Some(Command::Stop) {

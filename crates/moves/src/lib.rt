@@ -13,6 +13,7 @@ pub mod failure;
 pub mod instruction;
 pub mod numbers;
 pub mod place;
+pub mod plain;
 pub mod queue;
 pub mod states;
 pub mod statuses;
@@ -23,11 +24,15 @@ pub mod ticking;
 // The aims also go by the name of what they come of.
 pub use aim as aiming;
 pub use aim::OutOfRange;
-pub use commands::{state_under, stop_under};
+pub use commands::{is_move, is_run, state_under, stop_under};
 pub use failure::{Ending, Failure};
 pub use instruction::Instruction;
 pub use numbers::{AxisNumber, Below, BlockNumber};
 pub use place::Place;
+pub use plain::{
+    PlainAxis, halted_in, under_command, with_state, without_active, without_commands,
+};
 pub use queue::{MAX_WAITING, Queue};
+pub use states::{is_disabled, is_errorstop, rest_state, takes_commands};
 pub use table::{Axis, Block, MAX_AXES, MAX_BLOCKS, Status, Table};
 pub use telling::tell;

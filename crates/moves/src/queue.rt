@@ -1,5 +1,5 @@
 //! The commands that wait on an axis.
-ghost use Rattle.std.specs.Prelude.{◌≡◌, ◌+◌, ◌-◌, ◌<◌, ◌≤◌, if◌then◌else◌, Some, None, nat_lt, ◌==◌, replicate, slice_index, slice_set, take, length};
+ghost use Rattle.std.specs.Prelude.{◌≡◌, ℕ, ◌+◌, ◌-◌, ◌<◌, ◌≤◌, if◌then◌else◌, Some, None, nat_lt, ◌==◌, replicate, slice_index, slice_set, take, length};
 ghost use Rattle.moves.specs.Axes.{shifted};
 
 use crate::numbers::BlockNumber;
@@ -39,6 +39,23 @@ impl Queue {
             blocks: [BlockNumber::of(0); MAX_WAITING],
             waiting: 0,
         }
+    }
+
+    // Does nothing but say what the type keeps to, in all four places.
+    pub(crate) fn sized(&self)
+        ensures few { self.now.waiting ≤ 4 }
+        ensures queued { (k : ℕ) → slice_index self.now.blocks k < 32 }
+    {
+        let _ = self.numbers();
+        let _ = self.waiting();
+    }
+
+    // The numbers at the four places of the queue.
+    pub(crate) fn numbers(self) -> [u8; MAX_WAITING]
+        ensures numbers { result ≡ self.blocks }
+        ensures below { (k : ℕ) → slice_index result k < 32 }
+    {
+        self.blocks.map(u8::from)
     }
 
     /// How many wait.

@@ -1,5 +1,5 @@
 //! The sequencer's table: its blocks, and what it keeps of each axis.
-use crate::numbers::{AxisNumber, BlockNumber};
+use crate::numbers::BlockNumber;
 pub use crate::queue::MAX_WAITING;
 use crate::queue::Queue;
 use records::{AxisState, BufferMode, Cause, Command};
@@ -32,11 +32,12 @@ pub enum Status {
 }
 
 /// A block: a command and where it stands. A value that the command does not use is 0, and in an idle block all are.
+// No function rests on which axis a block names, or on which stop an axis remembers, so both are plain numbers.
 #[derive(Clone, Copy)]
 pub struct Block {
     pub status: Status,
     /// The axis that the command moves.
-    pub axis: AxisNumber,
+    pub axis: u8,
     /// The command; none in an idle block.
     pub command: Option<Command>,
     pub mode: BufferMode,
@@ -63,7 +64,7 @@ pub struct Axis {
     /// The blocks whose commands wait.
     pub queue: Queue,
     /// The block whose stop brought the present state stopping; none in another state.
-    pub stop: Option<BlockNumber>,
+    pub stop: Option<u8>,
 }
 
 // No step of an axis leads out of the numbers.

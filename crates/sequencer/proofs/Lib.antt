@@ -1,3 +1,4 @@
 pub mod Cycles
 pub mod Passing
+pub mod Releases
 pub mod Takes

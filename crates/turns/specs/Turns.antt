@@ -51,27 +51,31 @@ abbrev pub faults : Axis → AxisLook → Bool
 faults y look = not (look.fault == 0) && not (is_errorstop y.state)
 
 -- the turn under the active command
-abbrev pub turn_under : Option ℕ → Axis → Block → AxisLook → Turn
+abbrev pub turn_under : {N : Type 0} → Option N → Axis → Block → AxisLook → Turn N
 turn_under None y x look = Rest
 turn_under (Some b) y x look = cond (reached y x look) (Finish b) (cond (yields y x) (Yield b) Rest)
 
 -- a refused follow comes before the other cases
-abbrev pub turn_after : Option Cause → Turn → Turn
+abbrev pub turn_after : {N : Type 0} → Option Cause → Turn N → Turn N
 turn_after None others = others
 turn_after (Some cause) others = Fail cause
 
--- the turn of an axis y with the active block x that looks so, after its follow was refused or not
-unfoldable pub turn_of : Axis → Block → AxisLook → Option Cause → Turn
-turn_of y x look refusal =
+-- the turn of an axis y with the active block x, of this number, that looks so, after its follow was refused or not
+abbrev pub turn_by : {N : Type 0} → Option N → Axis → Block → AxisLook → Option Cause → Turn N
+turn_by active y x look refusal =
     cond (faults y look) (Fail (Drive look.fault))
-    (turn_after refusal (cond (enables y look) Enable (turn_under y.active y x look)))
+    (turn_after refusal (cond (enables y look) Enable (turn_under active y x look)))
+
+-- the same, with the number that the axis has
+unfoldable pub turn_of : Axis → Block → AxisLook → Option Cause → Turn ℕ
+turn_of y x look refusal = turn_by y.active y x look refusal
 
 -- what comes after a command that ended: nothing, or the start of another, unless its target is out of range
 abbrev pub Next : Type 0
-Next = Result (Option Start) OutOfRange
+Next = Result (Option (Start ℕ)) OutOfRange
 
 -- the first that waits begins, unless its target is out of range
-abbrev pub next_by : ℕ → Aim → Next
+abbrev pub next_by : {N : Type 0} → N → Aim → Result (Option (Start N)) OutOfRange
 next_by b (Ok target) = Ok (Some (record { block = b; target = target }))
 next_by b (Err out) = Err out
 

@@ -3,6 +3,7 @@ ghost use Rattle.std.specs.Prelude.{◌≡◌, ◌≤◌, unsigned_abs};
 ghost use Rattle.turns.specs.Steps.{held_rate, held_velocity, goal_of};
 
 use crate::under::Under;
+use moves::Block;
 use ramp::{Motion, Rate};
 
 // The largest velocity either way, in increments per cycle.
@@ -24,15 +25,23 @@ pub fn held_velocity(velocity: i32) -> i32
     velocity.clamp(-FASTEST, FASTEST)
 }
 
+/// The velocity that the block's command leads to: that of a run, and else 0.
+pub fn goal_of(block: Block) -> i32
+    ensures goal { result ≡ goal_of block }
+    ensures limit { unsigned_abs result ≤ 10000 }
+{
+    if block.is_run() {
+        return held_velocity(block.value);
+    }
+    0
+}
+
 impl Under {
     /// The velocity that the command leads to: that of a run, and else 0.
     pub fn goal(&self) -> i32
         ensures goal { result ≡ goal_of self.now.block }
         ensures limit { unsigned_abs result ≤ 10000 }
     {
-        if self.block.is_run() {
-            return held_velocity(self.block.value);
-        }
-        0
+        goal_of(self.block)
     }
 }

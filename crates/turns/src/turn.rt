@@ -1,11 +1,11 @@
 //! What an axis does after the segment's cycle.
-use moves::{BlockNumber, Place};
+use moves::Place;
 use records::Cause;
 
-/// The first case that applies to an axis.
+/// The first case that applies to an axis, with the number of a block as the axis has it.
 // An enum and no closure: it is decided before anything changes, and the definition names each case.
 #[derive(Clone, Copy)]
-pub enum Turn {
+pub enum Turn<N> {
     /// Nothing changes.
     Rest,
     /// The axis goes to errorstop.
@@ -17,19 +17,19 @@ pub enum Turn {
     Enable,
     /// The active command, of this block, is done.
     Finish {
-        block: BlockNumber,
+        block: N,
     },
     /// The active command, of this block, runs at its velocity, and another one waits.
     Yield {
-        block: BlockNumber,
+        block: N,
     },
 }
 
 /// How the next command begins.
 #[derive(Clone, Copy)]
-pub struct Start {
+pub struct Start<N> {
     /// The block of the command.
-    pub block: BlockNumber,
+    pub block: N,
     /// Its target, if it has one.
     pub target: Option<Place>,
 }

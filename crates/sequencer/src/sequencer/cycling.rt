@@ -13,11 +13,13 @@ impl<S: Segment> Sequencer<S> {
         ensures { WasCycled (world_of S.Segment.shows self.old trail.old) result (world_of S.Segment.shows self.new trail.new) }
     {
         self.check_cycle(trail)?;
-        self.machine.table.tick(trail);
-        let count = self.machine.segment.axes();
-        let refusals = self.machine.order_all(count);
-        self.machine.segment.cycle();
-        self.machine.settle_all(trail, count, refusals);
+        let machine = &mut self.machine;
+        machine.table.tick(trail);
+        let count = machine.segment.axes();
+        let refusals = machine.order_all(count);
+        machine.segment.cycle();
+        machine.settle_all(trail, count, refusals);
+        machine.table.sized();
         Ok(())
     }
 }

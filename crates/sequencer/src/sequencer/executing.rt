@@ -51,12 +51,14 @@ impl<S: Segment> Sequencer<S> {
         table.accept(trail, axis, block, instruction, mode);
         if waits {
             table.join(axis, block);
+            table.sized();
             return;
         }
         let look = look_at(&self.machine.segment, axis);
-        let aim = Block::of(axis, instruction, mode).place(look);
+        let aim = Block::of(axis.into(), instruction, mode).place(look);
         let demand = Place::of(look.demand);
         take_over(table, trail, axis, block, aim.unwrap_or(None), demand);
+        table.sized();
     }
 
     /// Gives an idle block a command for an axis, which begins at once or waits for those before it.

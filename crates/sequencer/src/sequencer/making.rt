@@ -14,6 +14,7 @@ impl<S> Sequencer<S> {
         ensures segment { segment_of result ≡ segment }
     {
         let table = Table::new();
+        table.sized();
         let machine = Machine { segment, table };
         Sequencer { machine }
     }

@@ -18,6 +18,7 @@ impl<S: Segment> Sequencer<S> {
     {
         let axis = self.check_power(trail, axis)?;
         self.machine.table.request(axis, true);
+        self.machine.table.sized();
         power_on(&mut self.machine.segment, axis);
         Ok(())
     }
@@ -31,6 +32,7 @@ impl<S: Segment> Sequencer<S> {
         let table = &mut self.machine.table;
         table.request(axis, false);
         table.quell(trail, axis, Ending::aborted(), AxisState::Disabled);
+        table.sized();
         power_off(&mut self.machine.segment, axis);
         Ok(())
     }

@@ -1,5 +1,6 @@
 //! Questions, which change nothing.
 ghost use Rattle.std.specs.Prelude.{◌≡◌, IfOk};
+ghost use Rattle.moves.specs.Sized.{Sized};
 ghost use Rattle.sequencer.specs.Questions.{block_answer, axis_answer, AxisLimits};
 ghost use Rattle.sequencer.specs.Whole.{segment_of, table_of};
 
@@ -22,6 +23,7 @@ impl<S: Segment> Sequencer<S> {
     pub fn axis(&self, axis: usize) -> Result<AxisAnswer, Refusal>
         ensures answer { result ≡ axis_answer (S.Segment.shows (segment_of self.now)) (table_of self.now) axis }
         ensures limits { IfOk result AxisLimits }
+        ensures sized { Sized (table_of self.now) }
     {
         let axis = self.axis_there(axis)?;
         Ok(self.machine.table.axis(axis).into())

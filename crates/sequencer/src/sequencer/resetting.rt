@@ -22,6 +22,7 @@ impl<S: Segment> Sequencer<S> {
             .with_request(false)
             .with_state(AxisState::Disabled);
         table.enter(trail, axis, next);
+        table.sized();
         clear(&mut self.machine.segment, axis);
         Ok(())
     }

@@ -23,7 +23,9 @@ impl<S: Segment> Sequencer<S> {
         }
         let fault = look_at(&self.machine.segment, axis).fault;
         let cause = Failure::of(Cause::Drive { fault });
-        self.machine.fail(trail, axis, cause);
+        let machine = &mut self.machine;
+        machine.fail(trail, axis, cause);
+        machine.table.sized();
         Ok(())
     }
 }

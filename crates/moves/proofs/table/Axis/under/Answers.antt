@@ -5,5 +5,5 @@ use Rattle.moves.proofs.table.Axis.under.Goals as goal
 
 pub invariant_of-self : goal.invariant_of-self
 invariant_of-self c =
-    let near : Near c.args.distance_to_go c.self.inside.velocity = near_begin _ _ (record { reach = c.requires; speed = c.self.invariant.0 }) in
+    let near : Near c.args.distance_to_go c.self.inside.velocity = near_begin c.args.distance_to_go c.self.inside.velocity (record { reach = c.requires; speed = c.self.invariant.0 }) in
     search rules

@@ -44,7 +44,8 @@ returns g c =
     let w = world_of g.S.Segment.shows args.self.now args.trail.now in
     let held : false ≡ waits args.mode (axis_of w args.axis) = search rules in
     let aim = block_aim (block_of args.axis args.instruction args.mode) (w.row.at args.axis) in
-    let aims : c.place-aim.result ≡ aim = c.place-aim.ensures ∙ (λ i. block_aim (c.of.ensures i) (shown i)) in
+    let made = c.of.ensures ∙ ap (λ a. block_of a args.instruction args.mode) c.into.ensures.0 in
+    let aims : c.place-aim.result ≡ aim = c.place-aim.ensures ∙ (λ i. block_aim (made i) (shown i)) in
     let target = c.unwrap_or.ensures ∙ ap (λ (z : Aim). result_unwrap_or z None) aims ∙ target_of_is aim in
     let demand = simp to_z-of_z at c.of-demand.ensures in
     executed_on w args.block args.axis args.instruction args.mode false c.unwrap_or.result c.of-demand.result
