@@ -7,6 +7,8 @@ pub mod ordering;
 pub mod segments;
 pub mod settling;
 
+pub use failing::fail;
 pub use machine::Machine;
-pub use ordering::follow;
+pub use ordering::{follow, order, order_all};
 pub use segments::{clear, look_at, power_off, power_on, trip};
+pub use settling::{hand_over, settle, settle_all};

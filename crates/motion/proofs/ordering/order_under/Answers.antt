@@ -7,13 +7,13 @@ use Rattle.moves.specs.Sheet.{axis_at, block_at, with_axis}
 use Rattle.turns.specs.Steps.{step_of, stepped}
 use Rattle.motion.specs.Ordering.{Noted}
 use Rattle.motion.proofs.Orders.{sum_fits, ordered_active, noted_active}
-use Rattle.motion.proofs.machine.Machine.order_under.Goals as goal
+use Rattle.motion.proofs.ordering.order_under.Goals as goal
 
 pub returns : goal.returns
 returns g c =
-    let row = g.S.Segment.shows c.args.self.now.segment in
+    let row = g.S.Segment.shows c.args.segment.now in
     let left = g.S.Segment.shows c.follow.new.segment in
-    let table = c.args.self.now.table in
+    let table = c.args.table.now in
     let axis = c.args.axis in
     let block = c.args.block in
     let old : Axis = axis_at table axis in

@@ -2,11 +2,11 @@ use Rattle.std.proofs.Common.{sym, ap, ◌∙◌, arith}
 use Rattle.moves.specs.Sheet.{Sheet, sheet, axis_at}
 use Rattle.motion.proofs.Turned.{lawful_turn}
 use Rattle.motion.proofs.Used.{finished_idle}
-use Rattle.motion.proofs.machine.Machine.settle.Goals as goal
+use Rattle.motion.proofs.settling.settle.Goals as goal
 
 pub returns-in-Finish-clause-wrote : goal.returns-in-Finish-clause-wrote
 returns-in-Finish-clause-wrote g c =
-    let s = sheet c.args.self.now.table c.args.trail.now in
+    let s = sheet c.args.table.now c.args.trail.now in
     let none =
     ap (λ (t : Sheet). (axis_at t.table c.args.axis).active) c.finish.ensures.sheet
     ∙ finished_idle s c.args.axis c.in-Finish.block c.of-in-Finish.result in
