@@ -14,7 +14,6 @@ impl<S> Sequencer<S> {
         ensures segment { segment_of result ≡ segment }
     {
         let table = Table::new();
-        table.sized();
         let machine = Machine { segment, table };
         Sequencer { machine }
     }

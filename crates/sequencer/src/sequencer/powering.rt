@@ -18,7 +18,6 @@ impl<S: Segment> Sequencer<S> {
     {
         let axis = self.check_power(trail, axis)?;
         self.machine.table.request(axis, true);
-        self.machine.table.sized();
         power_on(&mut self.machine.segment, axis);
         Ok(())
     }
