@@ -57,6 +57,13 @@ refused_more w v refusals refusal n within e all noted =
     (λ k h. let ne : k ≢ n = omega arith in rw (get_or-set_other refusals n k refusal None ne) (all k h))
     (rw (get_or-set_same refusals n refusal None within) (subst (λ (x : World). Noted (refusal_of x n) refusal) e noted))
 
+-- the same, where the refusal is put at a place that is n
+pub refused_at : (w v : World) (refusals : List (Option Cause)) (refusal : Option Cause) (n place : ℕ) → place ≡ n →
+    n < length refusals → v ≡ ordered_upto w n → RefusedUpto w refusals n → Noted (refusal_of v n) refusal →
+    RefusedUpto w (set refusals place refusal) (n + 1)
+refused_at w v refusals refusal n place there within e all noted =
+    rw there (refused_more w v refusals refusal n within e all noted)
+
 -- the first n axes are ordered, and row, table and refusals are these
 pub record OrderedFirst (before after : Row) (old new : Table) (refusals : List (Option Cause)) (n : ℕ) : Type 0 where
   pub so_far : (trail : Trail) → world after new trail ≡ ordered_upto (world before old trail) n

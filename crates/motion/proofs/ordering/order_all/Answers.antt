@@ -3,7 +3,7 @@ use Rattle.std.proofs.lemmas.List.{length-set}
 use Rattle.trail.specs.declared.memory.Trail.{Trail}
 use Rattle.motion.specs.Ordering.{ordered, refusal_of, Noted}
 use Rattle.motion.specs.World.{world}
-use Rattle.motion.proofs.Orders.{OrderedFirst, ordered_none, ordered_more, refused_none, refused_more}
+use Rattle.motion.proofs.Orders.{OrderedFirst, ordered_none, ordered_more, refused_none, refused_at}
 use Rattle.motion.proofs.ordering.order_all.Goals as goal
 
 pub loop-axis-init : goal.loop-axis-init
@@ -22,14 +22,15 @@ loop-axis-preserved g c =
     let few = (g.S.Segment.sound c.args.segment.now).few in
     let within : axis < length refusals = omega (arith, few, inv.long, c.loop-axis-test.true, c.requires.there) in
     let shows = g.S.Segment.shows in
+    let same : c.of.result ≡ axis = omega (arith, c.of.ensures, few, c.loop-axis-test.true, c.requires.there) in
     let step : (trail : Trail) → world (shows c.order.new.segment) c.order.new.table trail ≡ ordered (world (shows c.loop-axis.segment) c.loop-axis.table trail) axis =
-    rw (← c.of.ensures) c.order.ensures.world in
+    rw (← same) c.order.ensures.world in
     let noted : (trail : Trail) → Noted (refusal_of (world (shows c.loop-axis.segment) c.loop-axis.table trail) axis) c.order.result =
-    rw (← c.of.ensures) c.order.ensures.noted in
+    rw (← same) c.order.ensures.noted in
     record {
       so_far = λ trail. ordered_more _ _ _ axis (inv.so_far trail) (step trail);
-      noted = λ trail. refused_more _ _ refusals c.order.result axis within (inv.so_far trail) (inv.noted trail) (noted trail);
-      long = length-set refusals axis c.order.result ∙ inv.long;
+      noted = λ trail. refused_at _ _ refusals c.order.result axis _ (omega arith) within (inv.so_far trail) (inv.noted trail) (noted trail);
+      long = length-set refusals _ c.order.result ∙ inv.long;
       count = c.order.ensures.count ∙ inv.count;
     }
 

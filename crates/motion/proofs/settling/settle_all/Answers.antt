@@ -23,8 +23,9 @@ loop-axis-preserved g c =
     omega (arith, few, long, c.loop-axis-test.true, c.requires.there) in
     let w = world (g.S.Segment.shows c.loop-axis.segment) c.loop-axis.table c.loop-axis.trail in
     let any = c.index-refusals-axis.result in
+    let same : c.of.result ≡ axis = omega (arith, c.of.ensures, few, c.loop-axis-test.true, c.requires.there) in
     let step =
-    c.settle.ensures.world ∙ ap (λ (a : ℕ). settled w a (slice_index_or c.args.refusals axis any)) c.of.ensures
+    c.settle.ensures.world ∙ ap (λ (a : ℕ). settled w a (slice_index_or c.args.refusals axis any)) same
     ∙ ap (λ (r : Option Cause). settled w axis r) (get_or_default c.args.refusals axis any None within) in
     record {
       so_far = settled_more _ _ _ _ axis inv.so_far step;

@@ -1,4 +1,4 @@
-use Rattle.std.proofs.Common.{◌≡◌, ◌<◌, ℕ, List, slice_index, ap, refl, ◌∙◌, subst, arith}
+use Rattle.std.proofs.Common.{◌≡◌, ◌<◌, ℕ, List, slice_index, length, take, ap, refl, ◌∙◌, subst, arith, rules}
 use Rattle.std.proofs.lemmas.List.{get_or-take, get_or_read_under}
 use Rattle.moves.specs.Moves.{ended}
 use Rattle.moves.specs.Sheet.{sheet}
@@ -17,11 +17,13 @@ loop-block-preserved c =
     let before = c.loop-block.invariant in
     let queue = c.args.queue in
     let k = c.loop-block.block-index in
-    let items = c.as_slice-block-items.ensures in
-    let within : k < queue.waiting = omega (arith, c.loop-block-test.true, items.length) in
+    let items = c.as_slice-block-items.result.now in
+    let few : length items ≡ queue.waiting = search rules in
+    let those : items ≡ take queue.waiting queue.blocks = search rules in
+    let within : k < queue.waiting = omega (arith, c.loop-block-test.true, few) in
     let block =
-    get_or_read_under c.as_slice-block-items.result.now k _ c.block-item.result 0 c.block-item.is c.loop-block-test.true refl
-    ∙ ap (λ (xs : List ℕ). slice_index xs k) items.blocks ∙ get_or-take queue.waiting queue.blocks k 0 within in
+    get_or_read_under items k _ c.block-item.result 0 c.block-item.is c.loop-block-test.true refl
+    ∙ ap (λ (xs : List ℕ). slice_index xs k) those ∙ get_or-take queue.waiting queue.blocks k 0 within in
     let step = c.end.ensures.sheet ∙ ap (λ b. ended (sheet c.loop-block.self c.loop-block.trail) c.args.axis b c.args.ending) block in
     record {
       so_far = ended_more _ _ _ _ _ _ k before.so_far step;
@@ -34,8 +36,9 @@ loop-block-preserved c =
 
 pub returns : goal.returns
 returns c =
+    let few : length c.as_slice-block-items.result.now ≡ c.args.queue.waiting = search rules in
     let all : c.loop-block.block-index ≡ c.args.queue.waiting =
-    omega (arith, c.loop-block-test.false, c.loop-block.auto.block-index-end, c.as_slice-block-items.ensures.length) in
+    omega (arith, c.loop-block-test.false, c.loop-block.auto.block-index-end, few) in
     let done =
     subst (λ n. EndedFirst c.args.self.now c.loop-block.self c.args.trail.now c.loop-block.trail c.args.axis
     c.args.queue.blocks c.args.ending n) all c.loop-block.invariant in
